@@ -71,7 +71,7 @@ touches graph n (t ∷ u ∷ us) steps q (inr i) m e = later (touches graph t.to
     later (inr (inl b)) = inr (inl b)
     later (inr (inr (p, k, f))) = inr (inr (p, inr k, f))
 
-first_at : (graph : GraphParts) (n : NodeId) (ts : List ChainStep) → AreSteps graph n ts → (n.0 ≡ (end_after n ts).0 → ⊥) → (IsBetweenSteps ts n.0 → ⊥) → (q : ChainStep) → In q ts → IsEndOf graph q.seg n.0 → q.seg ≡ first_seg_of ts
+pub first_at : (graph : GraphParts) (n : NodeId) (ts : List ChainStep) → AreSteps graph n ts → (n.0 ≡ (end_after n ts).0 → ⊥) → (IsBetweenSteps ts n.0 → ⊥) → (q : ChainStep) → In q ts → IsEndOf graph q.seg n.0 → q.seg ≡ first_seg_of ts
 first_at graph n [] steps apart off q i e = absurd i
 first_at graph n (t ∷ []) steps apart off q (inl same) e = ap (λ (p : ChainStep). p.seg) same
 first_at graph n (t ∷ []) steps apart off q (inr i) e = absurd i
@@ -83,7 +83,7 @@ first_at graph n (t ∷ u ∷ us) steps apart off q (inr i) e = absurd (later (t
     later (inr (inl b)) = apart b
     later (inr (inr (p, k, f))) = off (p, inr k, f)
 
-last_at : (graph : GraphParts) (n : NodeId) (ts : List ChainStep) (s : SegId) → AreSteps graph n ts → (n.0 ≡ (end_after n ts).0 → ⊥) → (IsBetweenSteps ts (end_after n ts).0 → ⊥) → (q : ChainStep) → In q ts → IsEndOf graph q.seg (end_after n ts).0
+pub last_at : (graph : GraphParts) (n : NodeId) (ts : List ChainStep) (s : SegId) → AreSteps graph n ts → (n.0 ≡ (end_after n ts).0 → ⊥) → (IsBetweenSteps ts (end_after n ts).0 → ⊥) → (q : ChainStep) → In q ts → IsEndOf graph q.seg (end_after n ts).0
     → q.seg ≡ last_seg s ts
 last_at graph n [] s steps apart off q i e = absurd i
 last_at graph n (t ∷ []) s steps apart off q (inl same) e = ap (λ (p : ChainStep). p.seg) same

@@ -138,11 +138,11 @@ end_there graph n (t ∷ u ∷ us) (v ∷ x ∷ xs) k w each cut below =
     end_there graph t.to (u ∷ us) (x ∷ xs) (with_piece graph n t v k) cut.0 (omega (arith, each)) cut.2 (omega (arith, below, length-set k.points t.to.0 (end_point v))) ∙ sym (split_end w v cut.0 cut.1)
 
 -- the first and the last segment of a run end where it does
-first_end : (graph : GraphParts) (n : NodeId) (ts : List ChainStep) → AreSteps graph n ts → 0 < length ts → ((first_seg_of ts).0 < length graph.ends) × IsEndOf graph (first_seg_of ts) n.0
+pub first_end : (graph : GraphParts) (n : NodeId) (ts : List ChainStep) → AreSteps graph n ts → 0 < length ts → ((first_seg_of ts).0 < length graph.ends) × IsEndOf graph (first_seg_of ts) n.0
 first_end graph n [] steps some = absurd (omega (arith, some))
 first_end graph n (t ∷ ts) steps some = let on = first_leads graph n t ts steps in (on.0, leads_from graph n t on.1)
 
-last_end : (graph : GraphParts) (s : SegId) (n : NodeId) (ts : List ChainStep) → AreSteps graph n ts → 0 < length ts → ((last_seg s ts).0 < length graph.ends) × IsEndOf graph (last_seg s ts) (end_after n ts).0
+pub last_end : (graph : GraphParts) (s : SegId) (n : NodeId) (ts : List ChainStep) → AreSteps graph n ts → 0 < length ts → ((last_seg s ts).0 < length graph.ends) × IsEndOf graph (last_seg s ts) (end_after n ts).0
 last_end graph s n [] steps some = absurd (omega (arith, some))
 last_end graph s n (t ∷ []) steps some = (steps.0, leads_to graph n t steps.1)
 last_end graph s n (t ∷ u ∷ us) steps some = last_end graph t.seg t.to (u ∷ us) steps.3 (omega arith)

@@ -11,7 +11,7 @@ mod Steps
 mod RunEnds
 mod Laid
 -- runs and nodes that are taken off and put back; drawings that differ where nodes lie that don't stand
-mod Takable
+pub mod Takable
 mod PutBack
 mod TakenBack
 mod Alikes
@@ -19,7 +19,7 @@ mod Alikes
 mod JoinedPairs
 mod FieldFacts
 mod Growing
-mod Gained
+pub mod Gained
 -- what a drawing weighs without runs and nodes, and that they can be put back
 mod Restored
 mod Lifts
@@ -32,7 +32,7 @@ mod Bounded
 mod RunBounds
 mod LeastTurning
 mod Spaced
-mod LaidAll
+pub mod LaidAll
 mod LaidBack
 mod LayingAll
 -- attempts on whole drawings are those on their walks
