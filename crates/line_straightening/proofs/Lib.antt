@@ -1,2 +1,5 @@
 mod Rounds
 mod Ways
+mod Turned
+mod Straight
+mod Corners
