@@ -18,7 +18,7 @@ mod Alikes
 -- pairs of segments that lines join, and what a run adds to the weight of a drawing
 mod JoinedPairs
 mod FieldFacts
-mod Growing
+pub mod Growing
 pub mod Gained
 -- what a drawing weighs without runs and nodes, and that they can be put back
 mod Restored

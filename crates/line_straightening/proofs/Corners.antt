@@ -1,5 +1,5 @@
 -- Corners of a line graph: what becomes one stays one; and what becomes one where chains bend lies between their ends.
-use Rattle.std.proofs.Common.{◌≡◌, refl, sym, ◌∙◌, ap, ap₂, subst, ℕ, zero, suc, ◌+◌, ◌-◌, ◌*◌, ◌<◌, ◌≤◌, Bool, true, false, not, cond, eqb, nat_lt, ◌&&◌, ◌||◌, List, [], ◌∷◌, ◌++◌, length, map, max, take, drop, fold, get_or, set, ◌⊎◌, inl, inr, arith, get_or-set_same, get_or-set_other, length-set, length-drop}
+use Rattle.std.proofs.Common.{◌≡◌, refl, sym, ◌∙◌, ap, ap₂, subst, ℕ, zero, suc, ◌+◌, ◌-◌, ◌*◌, ◌<◌, ◌≤◌, Bool, true, false, not, cond, eqb, nat_lt, ◌&&◌, ◌||◌, List, [], ◌∷◌, ◌++◌, length, map, max, min, take, drop, fold, get_or, set, ◌⊎◌, inl, inr, arith, get_or-set_same, get_or-set_other, length-set, length-drop}
 use Rattle.std.proofs.lemmas.Bool.{and_from, and_parts, cases_eq, cases_lt, eq-eqb, eqb-true, lt-ltb, ltb-true, not-false, or_left, true≢false}
 use Rattle.std.proofs.lemmas.List.{get_or-drop, get_or-map, get_or-take, length-map, length-take}
 use Rattle.std.specs.List.{flat_map}
@@ -10,7 +10,7 @@ use Rattle.graph_core.specs.declared.parts.GraphParts.{GraphParts}
 use Rattle.graph_core.specs.Consistent.{IsConsistent}
 use Rattle.line_chains.specs.declared.chain.Chain.{Chain}
 use Rattle.line_chains.specs.declared.chain.ChainStep.{ChainStep}
-use Rattle.line_chains.specs.Bends.{bend_place, bends_of, chain_bends, corners_of, far_off, first_place, greatest, is_bent, last_place, node_at, offs_of, with_corner}
+use Rattle.line_chains.specs.Bends.{bend_place, bends_of, chain_bends, corners_of, far_off, first_place, greatest, is_bent, last_place, node_at, off_of, offs_of, place_of, with_corner}
 use Rattle.line_chains.specs.Chains.{chains_of, end_after, end_of, is_corner, is_reached, nodes_along, nodes_of, plain_corners, ring_corners, round_of, with_ring}
 use Rattle.octi_grid.proofs.Members.{in_append, In}
 use Rattle.run_laying.specs.Attempts.{inner_nodes}
@@ -107,11 +107,15 @@ place_inside : (graph : GraphParts) (nodes : List NodeId) → 2 < length nodes �
 place_inside graph nodes long =
     let below = first_below (greatest (offs_of graph nodes)) (offs_of graph nodes) (greatest_in (offs_of graph nodes) (omega (arith, many, long))) in omega (arith, below, many, long)
   where
+    sizes : (n : ℕ) → min (n - 1 - 1) (n - 1) ≡ n - 2
+    sizes n = omega arith
+
     many : length (offs_of graph nodes) ≡ length nodes - 2
-    many = length-map (slice_range nodes 1 (last_place nodes)) _ ∙ inner_many
-      where
-        inner_many : length (slice_range nodes 1 (last_place nodes)) ≡ length nodes - 2
-        inner_many = search (arith, length-take, length-drop)
+    many =
+        length-map (slice_range nodes 1 (last_place nodes)) (λ (n : NodeId). off_of (place_of graph (node_at nodes 0)) (place_of graph (node_at nodes (last_place nodes))) (place_of graph n))
+        ∙ length-take (last_place nodes - 1) (drop 1 nodes)
+        ∙ ap (min (last_place nodes - 1)) (length-drop 1 nodes)
+        ∙ sizes (length nodes)
 
 -- where a bend stands among nodes
 pub record IsBendAt (nodes : List NodeId) (m : NodeId) : Type 0 where
@@ -149,7 +153,7 @@ bend_at (suc most) graph cell nodes m i = by_test (is_bent graph cell nodes) ref
         by_part (inr x) =
             let at = bend_at most graph cell rear m x in
             let many = length-drop k nodes in
-            record { place = k + at.place; after = omega (arith, at.after); before = omega (arith, at.before, many); there = sym (get_or-drop nodes k at.place (record { 0 = 0 })) ∙ at.there }
+            record { place = k + at.place; after = omega (arith, at.after); before = omega (arith, at.before, many); there = sym (get_or-drop k nodes at.place (record { 0 = 0 })) ∙ at.there }
 
 -- and among the nodes of a chain
 inner_place : (ts : List ChainStep) (i : ℕ) → i + 1 < length ts → In (node_at (map (λ (t : ChainStep). t.to) ts) i) (inner_nodes ts)

@@ -1,5 +1,8 @@
+-- rounds, ways from corners, and ways from their ends
 mod Rounds
 mod Ways
 mod Turned
+-- rings and bends: chains between the corners are runs, and beside each other
 mod Straight
 mod Corners
+mod ChainRuns
