@@ -22,7 +22,7 @@ pub mod Growing
 pub mod Gained
 -- what a drawing weighs without runs and nodes, and that they can be put back
 mod Restored
-mod Lifts
+pub mod Lifts
 mod LiftedGroups
 -- bounds: sums of turns, straight ways, prices of turns, the limit of a walk; fewer ports, and runs one after another
 mod TurnSums

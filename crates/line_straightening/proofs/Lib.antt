@@ -6,3 +6,5 @@ mod Turned
 mod Straight
 mod Corners
 mod ChainRuns
+-- so the attempts of a pass fit the graph
+mod Fitting
