@@ -8,3 +8,6 @@ mod Corners
 mod ChainRuns
 -- so the attempts of a pass fit the graph
 mod Fitting
+-- runs by their places, and what straightening promises
+mod Places
+mod Promised

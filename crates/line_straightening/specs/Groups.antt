@@ -38,9 +38,12 @@ all_nodes count = map (λ n. record { 0 = n }) (range_with_len 0 count)
 abbrev pub AreRunsOf : GraphParts → List Chain → Type 0
 AreRunsOf graph runs = All (λ (c : Chain). IsRun graph c × (c.from.0 < length graph.kinds) × ((end_of c).0 < length graph.kinds)) runs
 
+-- a group moves no node twice, by vectors of at most four lengths
+abbrev pub IsSound : Group → Type 0
+IsSound g = AreApart g.nodes × (g.lengths ≤ 4)
+
 -- groups for these attempts, all of which fit the graph
 pub record AreGroupsFor (graph : GraphParts) (attempts : List Attempt) (groups : List Group) : Type 0 where
   pub attempts_are : attempts_of groups ≡ attempts
   pub fitting : All (IsFitting graph) attempts
-  pub apart : All (λ (g : Group). AreApart g.nodes) groups
-  pub lengths : All (λ (g : Group). g.lengths ≤ 4) groups
+  pub sound : All IsSound groups

@@ -1,13 +1,13 @@
 //! The groups of attempts, in their order.
 
-ghost use Rattle.std.specs.Prelude.{◌≡◌, ◌<◌, ◌≤◌, ◌++◌, ◌∷◌, [], false, true, filter, length, map, slice_index_or, vec_items, All, IfOk, OnOk};
+ghost use Rattle.std.specs.Prelude.{◌≡◌, ◌≢◌, ◌<◌, ◌≤◌, ◌++◌, ◌∷◌, [], filter, length, map, vec_items, All, IfOk, OnOk};
 ghost use Rattle.std.specs.List.{flat_map};
 ghost use Rattle.line_chains.specs.declared.chain.Chain.{Chain};
 ghost use Rattle.line_chains.specs.Chains.{chains_of, end_of, is_corner};
-ghost use Rattle.run_laying.specs.Runs.{AreBeside};
+ghost use Rattle.run_laying.specs.Runs.{IsFitting};
 ghost use Rattle.run_laying.specs.Searches.{attempts_alone};
 ghost use Rattle.drawing_search.specs.Searched.{attempts_in, attempts_of};
-ghost use Rattle.line_straightening.specs.Groups.{all_nodes, all_places, places_at, AreGroupsFor, AreRunsOf};
+ghost use Rattle.line_straightening.specs.Groups.{all_nodes, all_places, places_at, AreGroupsFor, AreRunsOf, IsSound};
 ghost use Rattle.line_straightening.specs.Straightening.{moves_of, straight_attempts};
 
 use crate::runs::{copies_of, copy_of, end_of, merged, runs_at_nodes, single_runs};
@@ -32,9 +32,8 @@ pub(crate) fn groups_of(
 ) -> Result<Vec<Group>, NoMemory>
     requires flags { length corners.now ≡ length graph.now.kinds }
     requires runs { AreRunsOf graph.now chains.now }
-    requires beside { AreBeside chains.now }
-    requires ends { All (λ (c : Chain). slice_index_or corners.now c.from.0 false ≡ true) chains.now }
     requires are { chains.now ≡ chains_of graph.now corners.now }
+    requires fitting { All (IsFitting graph.now) (straight_attempts graph.now corners.now) }
     ensures { IfOk result (λ groups. AreGroupsFor graph.now (straight_attempts graph.now corners.now) groups.items) }
 {
     let mut groups = Vec::new(alloc);
@@ -51,7 +50,9 @@ pub(crate) fn groups_of(
 
 /// Lists each run without a move.
 fn push_alone(alloc: Global, runs: &[Chain], groups: &mut Vec<Group>) -> Result<(), NoMemory>
-    ensures { OnOk result (attempts_of groups.new.items ≡ attempts_of groups.old.items ++ map attempts_alone runs.now) }
+    requires sound { All IsSound groups.old.items }
+    ensures sound { OnOk result (All IsSound groups.new.items) }
+    ensures attempts { OnOk result (attempts_of groups.new.items ≡ attempts_of groups.old.items ++ map attempts_alone runs.now) }
 {
     for run in runs {
         let mut alone = Vec::new(alloc);
@@ -75,7 +76,9 @@ fn push_corners(
 ) -> Result<(), NoMemory>
     requires few { length corners.now ≤ 10000 }
     requires places { map vec_items at.now ≡ all_places runs.now (length corners.now) }
-    ensures { OnOk result (attempts_of groups.new.items ≡ attempts_of groups.old.items ++ flat_map (λ n. moves_of runs.now (n ∷ [])) (filter (is_corner corners.now) (all_nodes (length corners.now)))) }
+    requires sound { All IsSound groups.old.items }
+    ensures sound { OnOk result (All IsSound groups.new.items) }
+    ensures attempts { OnOk result (attempts_of groups.new.items ≡ attempts_of groups.old.items ++ flat_map (λ n. moves_of runs.now (n ∷ [])) (filter (is_corner corners.now) (all_nodes (length corners.now)))) }
 {
     for n in 0..corners.len() {
         if corners.is_raised(n) {
@@ -94,7 +97,9 @@ fn push_nodes(
     groups: &mut Vec<Group>,
 ) -> Result<(), NoMemory>
     requires places { map vec_items at.now ≡ all_places runs.now nodes }
-    ensures { OnOk result (attempts_of groups.new.items ≡ attempts_of groups.old.items ++ flat_map (λ n. moves_of runs.now (n ∷ [])) (all_nodes nodes)) }
+    requires sound { All IsSound groups.old.items }
+    ensures sound { OnOk result (All IsSound groups.new.items) }
+    ensures attempts { OnOk result (attempts_of groups.new.items ≡ attempts_of groups.old.items ++ flat_map (λ n. moves_of runs.now (n ∷ [])) (all_nodes nodes)) }
 {
     for n in 0..nodes {
         groups.push(group_at(alloc, NodeId(n), runs, &at[n as usize])?)?;
@@ -105,7 +110,8 @@ fn push_nodes(
 /// A node with the runs that end at it.
 fn group_at(alloc: Global, n: NodeId, runs: &[Chain], places: &[usize]) -> Result<Group, NoMemory>
     requires { places.now ≡ places_at runs.now n.0 }
-    ensures { IfOk result (λ group. attempts_in group ≡ moves_of runs.now (n ∷ [])) }
+    ensures attempts { IfOk result (λ group. attempts_in group ≡ moves_of runs.now (n ∷ [])) }
+    ensures sound { IfOk result IsSound }
 {
     let nodes = vec![in alloc; n; 1]?;
     Ok(Group {
@@ -124,20 +130,43 @@ fn push_ends(
 ) -> Result<(), NoMemory>
     requires from { All (λ (c : Chain). c.from.0 < length at.now) runs.now }
     requires to { All (λ (c : Chain). (end_of c).0 < length at.now) runs.now }
+    requires apart { All (λ (c : Chain). c.from.0 ≢ (end_of c).0) runs.now }
     requires places { map vec_items at.now ≡ all_places runs.now (length at.now) }
-    ensures { OnOk result (attempts_of groups.new.items ≡ attempts_of groups.old.items ++ flat_map (λ (c : Chain). moves_of runs.now (c.from ∷ end_of c ∷ [])) runs.now) }
+    requires sound { All IsSound groups.old.items }
+    ensures sound { OnOk result (All IsSound groups.new.items) }
+    ensures attempts { OnOk result (attempts_of groups.new.items ≡ attempts_of groups.old.items ++ flat_map (λ (c : Chain). moves_of runs.now (c.from ∷ end_of c ∷ [])) runs.now) }
 {
     for run in runs {
         let end = end_of(run);
-        let places = merged(alloc, &at[run.from.0 as usize], &at[end.0 as usize])?;
-        let mut nodes = Vec::new(alloc);
-        nodes.push(run.from)?;
-        nodes.push(end)?;
-        groups.push(Group {
-            nodes: Sequence::of(nodes),
-            lengths: LENGTHS,
-            runs: Sequence::of(copies_of(alloc, runs, &places)?),
-        })?;
+        let from_places = &at[run.from.0 as usize];
+        let end_places = &at[end.0 as usize];
+        groups.push(group_between(alloc, run.from, end, runs, from_places, end_places)?)?;
     }
     Ok(())
+}
+
+/// Two nodes with the runs that end at either.
+fn group_between(
+    alloc: Global,
+    from: NodeId,
+    end: NodeId,
+    runs: &[Chain],
+    from_places: &[usize],
+    end_places: &[usize],
+) -> Result<Group, NoMemory>
+    requires apart { from.0 ≢ end.0 }
+    requires from_places { from_places.now ≡ places_at runs.now from.0 }
+    requires end_places { end_places.now ≡ places_at runs.now end.0 }
+    ensures attempts { IfOk result (λ group. attempts_in group ≡ moves_of runs.now (from ∷ end ∷ [])) }
+    ensures sound { IfOk result IsSound }
+{
+    let places = merged(alloc, from_places, end_places)?;
+    let mut nodes = Vec::new(alloc);
+    nodes.push(from)?;
+    nodes.push(end)?;
+    Ok(Group {
+        nodes: Sequence::of(nodes),
+        lengths: LENGTHS,
+        runs: Sequence::of(copies_of(alloc, runs, &places)?),
+    })
 }
