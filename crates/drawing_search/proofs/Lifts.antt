@@ -161,10 +161,10 @@ node_weighs scale graph first k h n stands =
         let turns : scale.overs * turns_in graph (lifted k n) m ≡ scale.overs * turns_in graph k m = refl in
         let before : cond (is_standing k m) (apart_in scale first k m) 0 ≡ apart_in scale first k m = ap (λ b. cond b (apart_in scale first k m) 0) (ap (is_standing k) e ∙ stands) in
         let low : is_standing (lifted k n) m ≡ false = ap (is_standing (lifted k n)) e ∙ get_or-set_same k.stand n.0 false false (omega (arith, below, h.stand_each)) in
-        let then : cond (is_standing (lifted k n) m) (apart_in scale first (lifted k n) m) 0 ≡ 0 = ap (λ b. cond b (apart_in scale first (lifted k n) m) 0) low in
+        let afterwards : cond (is_standing (lifted k n) m) (apart_in scale first (lifted k n) m) 0 ≡ 0 = ap (λ b. cond b (apart_in scale first (lifted k n) m) 0) low in
         let added : cond (eqb m n.0) (apart_in scale first k n.0) 0 ≡ apart_in scale first k n.0 = ap (λ b. cond b (apart_in scale first k n.0) 0) (eq-eqb m n.0 e) in
         let same : apart_in scale first k m ≡ apart_in scale first k n.0 = ap (apart_in scale first k) e in
-        omega (arith, turns, before, then, added, same)
+        omega (arith, turns, before, afterwards, added, same)
     each m (inr f) =
         let turns : scale.overs * turns_in graph (lifted k n) m ≡ scale.overs * turns_in graph k m = refl in
         let flag : is_standing (lifted k n) m ≡ is_standing k m = get_or-set_other k.stand n.0 m false false f in

@@ -89,10 +89,10 @@ stood_weighs scale graph first k n p points flags below low =
         let before : cond (is_standing k m) (apart_in scale first k m) 0 ≡ 0 = ap (λ b. cond b (apart_in scale first k m) 0) (ap (is_standing k) e ∙ low) in
         let stands : is_standing (stood k n p) m ≡ true = ap (is_standing (stood k n p)) e ∙ get_or-set_same k.stand n.0 true false (omega (arith, below, flags)) in
         let there : point_of_node (stood k n p) m ≡ p = ap (point_of_node (stood k n p)) e ∙ get_or-set_same k.points n.0 p nowhere (omega (arith, below, points)) in
-        let then : cond (is_standing (stood k n p) m) (apart_in scale first (stood k n p) m) 0 ≡ more =
+        let afterwards : cond (is_standing (stood k n p) m) (apart_in scale first (stood k n p) m) 0 ≡ more =
         ap (λ b. cond b (apart_in scale first (stood k n p) m) 0) stands ∙ ap (apart_weight_by scale m (first_point first m)) there ∙ ap (λ i. apart_weight_by scale i (first_point first i) p) e in
         let added : cond (eqb m n.0) more 0 ≡ more = ap (λ b. cond b more 0) (eq-eqb m n.0 e) in
-        omega (arith, turns, before, then, added)
+        omega (arith, turns, before, afterwards, added)
     each m (inr f) =
         let turns : scale.overs * turns_in graph (stood k n p) m ≡ scale.overs * turns_in graph k m = refl in
         let flag : is_standing (stood k n p) m ≡ is_standing k m = get_or-set_other k.stand n.0 m true false f in

@@ -65,12 +65,12 @@ module _ (scale : Scale) (graph : GraphParts) (fit : IsConsistent graph) (first 
 
     module _ (room : made < most) (new : Sketch) (less more : ℕ) (settled : IsSettled scale graph (points_all graph first) new less)
         (is : (let f : Tried = record { sketch = new; made = more } in f) ≡ after_tries scale graph (points_all graph first) (min most (made + at_once)) (attempts_of groups) (record { sketch = k; made = made })) where
-      then : Tried
-      then = record { sketch = new; made = more }
+      come_to : Tried
+      come_to = record { sketch = new; made = more }
       after = tries_after scale graph (points_all graph first) (min most (made + at_once)) (attempts_of groups) now (omega (arith, room))
       there = tries_there graph fit scale first bounds (min most (made + at_once)) (attempts_of groups) now b.good fits
 
-      found : found_of graph fit scale first bounds then ≡ after_pass (improving graph bounds (weight_by scale graph first)) (attempts_of groups) (min most (made + at_once)) (found_of graph fit scale first bounds now)
+      found : found_of graph fit scale first bounds come_to ≡ after_pass (improving graph bounds (weight_by scale graph first)) (attempts_of groups) (min most (made + at_once)) (found_of graph fit scale first bounds now)
       found = ap (found_of graph fit scale first bounds) is ∙ there.is
 
       -- a pass made nothing
