@@ -9,6 +9,7 @@ mod OnSketches
 -- walks step by step, and runs that are laid along a walk that is cut
 mod Steps
 mod RunEnds
+pub mod FewSteps
 mod Laid
 -- runs and nodes that are taken off and put back; drawings that differ where nodes lie that don't stand
 pub mod Takable

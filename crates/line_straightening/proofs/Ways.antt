@@ -1,9 +1,6 @@
 -- Ways from corners over nodes that are none to corners.
 use Rattle.std.proofs.Common.{◌≡◌, refl, sym, ◌∙◌, ap, subst, ℕ, zero, suc, ◌+◌, ◌<◌, ◌≤◌, Bool, true, false, cond, eqb, List, [], ◌∷◌, ◌++◌, append_assoc, append-nil, length, length-append, map, get_or, Contains, ◌⊎◌, inl, inr, arith}
 use Rattle.std.proofs.lemmas.Bool.{cases_Bool, cases_eq, eq-eqb, eqb-true, ne_eqb, or_cases, true≢false}
-use Rattle.std.proofs.lemmas.List.{length-map}
-use Rattle.std.proofs.lemmas.Map.Steps.{length-le_from_distinct_below}
-use Rattle.std.specs.List.{list_any, AllByRecursion, IsDistinct}
 use Rattle.map_base.specs.declared.ids.NodeId.{NodeId}
 use Rattle.map_base.specs.declared.ids.SegId.{SegId}
 use Rattle.graph_core.specs.declared.parts.GraphParts.{GraphParts}
@@ -21,6 +18,7 @@ use Rattle.run_laying.specs.Runs.{AreOnce, AreSteps, LeadsTo, MeetAlone}
 use Rattle.run_laying.specs.Sketches.{IsEndOf}
 use Rattle.run_laying.proofs.Kept.{last_outer}
 use Rattle.run_laying.proofs.RunFacts.{contains_in, end_below, in_round, leads_to, once_first, step_of, IsOff}
+use Rattle.drawing_search.proofs.FewSteps.{few_once}
 use Rattle.drawing_search.proofs.Gained.{last_at}
 use Rattle.drawing_search.proofs.LaidAll.{last_end}
 use Rattle.drawing_search.proofs.Takable.{in_from}
@@ -180,29 +178,6 @@ module _ (graph : GraphParts) (fit : IsConsistent graph) (corners : List Bool) (
           other_below : IsOther graph s z (other_of (round_of graph z) s) → (other_of (round_of graph z) s).0 < length graph.ends
           other_below o = all_in (λ (t : SegId). t.0 < length graph.ends) (round_of graph z) (other_of (round_of graph z) s) (λ k d h. round_below graph fit z.0 node k d h) o.there
 
-  -- no segment twice, so not more steps than segments
-  distinct_of : (ts : List ChainStep) → AreOnce ts → IsDistinct eqb (map (λ (t : ChainStep). t.seg.0) ts)
-  unfolding IsDistinct
-  distinct_of [] once = tt
-  distinct_of (t ∷ ts) once = (others ts (λ q i. once_first t ts once q i), distinct_of ts once.1)
-    where
-      others : (us : List ChainStep) → ((q : ChainStep) → In q us → q.seg.0 ≡ t.seg.0 → ⊥) → AllByRecursion (λ y. eqb t.seg.0 y ≡ false) (map (λ (u : ChainStep). u.seg.0) us)
-      others [] off = tt
-      others (u ∷ us) off = (ne_eqb t.seg.0 u.seg.0 (λ e. off u (inl refl) (sym e)), others us (λ q i. off q (inr i)))
-
-  few_once : (ts : List ChainStep) → AreOnce ts → ((t : ChainStep) → In t ts → t.seg.0 < length graph.ends) → length ts ≤ length graph.ends
-  few_once ts once all_below =
-      let few = length-le_from_distinct_below (map (λ (t : ChainStep). t.seg.0) ts) (length graph.ends) (distinct_of ts once) (λ q e. below ts all_below q e) in
-      omega (arith, few, length-map ts (λ (t : ChainStep). t.seg.0))
-    where
-      below : (us : List ChainStep) → ((t : ChainStep) → In t us → t.seg.0 < length graph.ends) → (q : ℕ) → list_any (eqb q) (map (λ (t : ChainStep). t.seg.0) us) ≡ true → q < length graph.ends
-      below [] all q e = absurd (true≢false (sym e))
-      below (u ∷ us) all q e = by_first (or_cases (eqb q u.seg.0) (list_any (eqb q) (map (λ (t : ChainStep). t.seg.0) us)) e)
-        where
-          by_first : (eqb q u.seg.0 ≡ true) ⊎ (list_any (eqb q) (map (λ (t : ChainStep). t.seg.0) us) ≡ true) → q < length graph.ends
-          by_first (inl f) = omega (arith, eqb-true q u.seg.0 f, all u (inl refl))
-          by_first (inr f) = below us (λ t i. all t (inr i)) q f
-
   -- the way from a corner by a segment of its round
   pub way_is : (s : SegId) → n.0 < length graph.kinds → In s (round_of graph n) → s.0 < length graph.ends → IsWay graph corners n (way_from graph corners n s).steps
   way_is s here on below = record { some = some; steps = g.steps; once = g.once; from = corner; end = by_end g.end; inner = g.inner }
@@ -254,4 +229,4 @@ module _ (graph : GraphParts) (fit : IsConsistent graph) (corners : List Bool) (
                   each t (inr (inr none)) h = absurd none
 
               many_once : (us : List ChainStep) → AreOnce us → ((t : ChainStep) → In t us → t.seg.0 < length graph.ends) → length graph.ends < length us → ⊥
-              many_once us once all many = let few = few_once us once all in omega (arith, few, many)
+              many_once us once all many = let few = few_once graph us once all in omega (arith, few, many)
