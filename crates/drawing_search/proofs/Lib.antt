@@ -11,6 +11,7 @@ mod Steps
 mod RunEnds
 pub mod FewSteps
 mod Laid
+mod LaySteps
 -- runs and nodes that are taken off and put back; drawings that differ where nodes lie that don't stand
 pub mod Takable
 mod PutBack
