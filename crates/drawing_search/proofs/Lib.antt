@@ -37,6 +37,7 @@ mod Spaced
 pub mod LaidAll
 mod LaidBack
 mod LayingAll
+mod LayLoop
 -- attempts on whole drawings are those on their walks
 mod OnWalks
 -- and what an attempt takes off, moves and lays
