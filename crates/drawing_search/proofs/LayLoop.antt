@@ -1,5 +1,5 @@
 -- Runs of an attempt are laid one after another: what is known between two of them, and how it ends.
-use Rattle.std.proofs.Common.{◌≡◌, refl, sym, ◌∙◌, ap, ap₂, subst, ℕ, suc, ◌+◌, ◌-◌, ◌<◌, ◌≤◌, Bool, true, false, cond, eqb, nat_lt, List, [], ◌∷◌, ◌++◌, length, drop, fold, take, get_or, Option, Some, None, ◌⊎◌, inl, inr, arith}
+use Rattle.std.proofs.Common.{◌≡◌, refl, sym, ◌∙◌, ap, ap₂, subst, ℕ, zero, suc, ◌+◌, ◌-◌, ◌<◌, ◌≤◌, Bool, true, false, cond, eqb, nat_lt, List, [], ◌∷◌, ◌++◌, length, drop, fold, take, get_or, Option, Some, None, ◌⊎◌, inl, inr, arith}
 use Rattle.std.proofs.lemmas.Bool.{lt-ltb, true≢false}
 use Rattle.std.proofs.lemmas.List.{drop_all, drop_more, take_more}
 use Rattle.std.specs.List.{list_any}
@@ -66,14 +66,14 @@ module _ (graph : GraphParts) (fit : IsConsistent graph) (scale : Scale) (first 
   }
 
   in_front : (xs : List Chain) (j : ℕ) (b : Chain) → In b (take j xs) → In b xs
-  in_front [] 0 b m = m
+  in_front [] zero b m = m
   in_front [] (suc j) b m = m
-  in_front (x ∷ xs) 0 b m = absurd m
+  in_front (x ∷ xs) zero b m = absurd m
   in_front (x ∷ xs) (suc j) b (inl e) = inl e
   in_front (x ∷ xs) (suc j) b (inr m) = inr (in_front xs j b m)
 
   front_beside : (j : ℕ) (xs : List Chain) → AreBeside xs → AreBeside (take j xs)
-  front_beside 0 xs beside = tt
+  front_beside zero xs beside = tt
   front_beside (suc j) [] beside = tt
   front_beside (suc j) (x ∷ xs) beside = (λ t there. of_front t (beside.0 t there), front_beside j xs beside.1)
     where

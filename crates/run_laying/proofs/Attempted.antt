@@ -64,6 +64,7 @@ laid_on graph fit c k new h run clear e = by_walk (run_walk graph (board_under k
     by_walk None is found = cc
     by_walk (Some w) is found = by_test (nat_le (length c.steps) (even_steps (points_of w))) refl found
       where
+        free : IsFreeWalk graph k c.from.0 (end_of c).0 (first_seg_of c.steps) (last_seg_of c) w
         free = free_of_route graph k h c.from.0 (end_of c).0 (first_seg_of c.steps) (last_seg_of c) w clear.from clear.end run.apart is
 
         by_test : (t : Bool) → nat_le (length c.steps) (even_steps (points_of w)) ≡ t → cond t (Some (with_pieces graph c.from c.steps (pieces_of w (length c.steps)) k)) None ≡ Some new → IsLaidOn graph c k new

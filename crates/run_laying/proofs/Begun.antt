@@ -2,7 +2,7 @@
 use Rattle.std.proofs.Common.{◌≡◌, refl, sym, ◌∙◌, ap, ap₂, subst, ℕ, zero, suc, ◌+◌, ◌%◌, ◌<◌, ◌≤◌, Bool, true, false, not, cond, eqb, ◌&&◌, ◌||◌, List, [], ◌∷◌, length, get_or, replicate, slice_get, Option, Some, None, ℤ, ◌+ℤ◌, unsigned_abs, ◌⊎◌, inl, inr, arith}
 use Rattle.std.proofs.lemmas.Int.{ints}
 use Rattle.std.proofs.lemmas.Bool.{and_from, and_parts, cases_Bool, cases_lt, eqb-true, eq-eqb, not-true, or_cases, true≢false}
-use Rattle.std.proofs.lemmas.List.{get_or_past}
+use Rattle.std.proofs.lemmas.List.{get_or_default, get_or_past}
 use Rattle.std.proofs.lemmas.List.FromFn.{get_or-map-range_with_len, get_or-range_with_len, length-map-range_with_len, length-range_with_len}
 use Rattle.std.proofs.lemmas.Option.{slice_get-get_or}
 use Rattle.std.specs.List.{filter_map, list_all, list_any, range_with_len}
@@ -265,8 +265,9 @@ module _ (graph : GraphParts) (fit : IsConsistent graph) (bounds : Bounds) (walk
         let node : m < length k0.points = omega (arith, (stands_of m stands).node, length-map-range_with_len (point_in_attempt graph walks a) 0 (length graph.kinds)) in
         true≢false
         (sym (any_from (stands_at k0 a.nodes (point_of_node k0 n)) (range_with_len 0 (length k0.points)) m (in_range (length k0.points) m node)
-        (and_from (is_standing k0 m) (not (has_node a.nodes m) && are_one (point_of_node k0 m) (point_of_node k0 n)) stands
-        (and_from (not (has_node a.nodes m)) (are_one (point_of_node k0 m) (point_of_node k0 n)) (ap not stays) (are_one_from (point_of_node k0 m) (point_of_node k0 n) (sym same)))))
+        (and_from (is_standing k0 m) (not (has_node a.nodes m) && are_one (get_or k0.points m (point_of_node k0 n)) (point_of_node k0 n)) stands
+        (and_from (not (has_node a.nodes m)) (are_one (get_or k0.points m (point_of_node k0 n)) (point_of_node k0 n)) (ap not stays)
+        (are_one_from (get_or k0.points m (point_of_node k0 n)) (point_of_node k0 n) (get_or_default k0.points m (point_of_node k0 n) nowhere node ∙ sym same)))))
         ∙ (moved_parts n moves).1)
 
     points_own : (n m : ℕ) → is_standing k0 n ≡ true → is_standing k0 m ≡ true → point_of_node k0 n ≡ point_of_node k0 m → n ≡ m

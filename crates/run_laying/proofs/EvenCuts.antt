@@ -39,26 +39,23 @@ passing_at p a n i h =
 
 rising : (p : ℕ → Bool) (a n i j : ℕ) → i < j → j < length (passing p a n) → get_or (passing p a n) i 0 < get_or (passing p a n) j 0
 rising p a zero i j h below = absurd (omega (arith, below))
-rising p a (suc n) i j h below = by_test (p a) refl i j h below
+rising p a (suc n) i j h below = by_test (λ x y more under. rising p (a + 1) n x y more under) (p a) refl i j h below
   where
     ys : List ℕ
     ys = passing p (a + 1) n
 
-    on : (i j : ℕ) → i < j → j < length ys → get_or ys i 0 < get_or ys j 0
-    on i j h below = rising p (a + 1) n i j h below
-
     of : Bool → List ℕ
     of t = cond t (a ∷ ys) ys
 
-    by_place : (i j : ℕ) → i < j → j < length (a ∷ ys) → get_or (a ∷ ys) i 0 < get_or (a ∷ ys) j 0
-    by_place zero zero h below = absurd (omega arith)
-    by_place (suc i) zero h below = absurd (omega arith)
-    by_place zero (suc j) h below = let later = passing_at p (a + 1) n j (omega arith) in omega (arith, later.1)
-    by_place (suc i) (suc j) h below = on i j (omega arith) (omega arith)
+    by_place : ((i j : ℕ) → i < j → j < length ys → get_or ys i 0 < get_or ys j 0) → (i j : ℕ) → i < j → j < length (a ∷ ys) → get_or (a ∷ ys) i 0 < get_or (a ∷ ys) j 0
+    by_place on zero zero h below = absurd (omega arith)
+    by_place on (suc i) zero h below = absurd (omega arith)
+    by_place on zero (suc j) h below = let later = passing_at p (a + 1) n j (omega arith) in omega (arith, later.1)
+    by_place on (suc i) (suc j) h below = on i j (omega arith) (omega arith)
 
-    by_test : (t : Bool) → p a ≡ t → (i j : ℕ) → i < j → j < length (of (p a)) → get_or (of (p a)) i 0 < get_or (of (p a)) j 0
-    by_test true e i j h below = subst (λ t. get_or (of t) i 0 < get_or (of t) j 0) (sym e) (by_place i j h (subst (λ t. j < length (of t)) e below))
-    by_test false e i j h below = subst (λ t. get_or (of t) i 0 < get_or (of t) j 0) (sym e) (on i j h (subst (λ t. j < length (of t)) e below))
+    by_test : ((i j : ℕ) → i < j → j < length ys → get_or ys i 0 < get_or ys j 0) → (t : Bool) → p a ≡ t → (i j : ℕ) → i < j → j < length (of (p a)) → get_or (of (p a)) i 0 < get_or (of (p a)) j 0
+    by_test on true e i j h below = subst (λ t. get_or (of t) i 0 < get_or (of t) j 0) (sym e) (by_place on i j h (subst (λ t. j < length (of t)) e below))
+    by_test on false e i j h below = subst (λ t. get_or (of t) i 0 < get_or (of t) j 0) (sym e) (on i j h (subst (λ t. j < length (of t)) e below))
 
 passing_first : (p : ℕ → Bool) (a n : ℕ) → p a ≡ true → get_or (passing p a (suc n)) 0 0 ≡ a
 passing_first p a n e = ap (λ t. get_or (cond t (a ∷ passing p (a + 1) n) (passing p (a + 1) n)) 0 0) e
@@ -101,7 +98,7 @@ share_grows i j m count some order =
     le-div (i * m / count) (j * m) count some (omega arith)
 
 share_first : (m count : ℕ) → 0 < count → 0 * m / count ≡ 0
-share_first m count some = div-eq_of_lt some
+share_first m count some = let none : 0 * m ≡ 0 = omega arith in ap (λ k. k / count) none ∙ div-eq_of_lt some
 
 share_last : (m count : ℕ) → 0 < count → count * m / count ≡ m
 share_last m count some = mul-div_cancel_left m some
@@ -169,19 +166,19 @@ cut_from w c count cuts i (suc m) all = (
 -- ---- the pieces of a walk
 
 module _ (w : PlainWalk) (n : ℕ) (first_even : is_even w.start ≡ true) (last_even : is_even (end_point w) ≡ true) (enough : suc n ≤ even_steps (points_of w)) where
-  count : ℕ
+  abbrev count : ℕ
   count = suc n
 
-  pts : List GridPoint
+  abbrev pts : List GridPoint
   pts = points_of w
 
   long : length pts ≡ suc (length w.steps)
   long = length-points w.start w.steps
 
-  test : ℕ → Bool
+  abbrev test : ℕ → Bool
   test i = is_even (point_at pts i)
 
-  xs : List ℕ
+  abbrev xs : List ℕ
   xs = passing test 0 (suc (length w.steps))
 
   places : even_places pts ≡ xs
@@ -198,13 +195,13 @@ module _ (w : PlainWalk) (n : ℕ) (first_even : is_even w.start ≡ true) (last
       let same : 0 + length w.steps ≡ length w.steps = omega arith in
       subst (λ j. HasLast xs j) same (passing_last test 0 (length w.steps) (ap test same ∙ ap is_even end_is ∙ last_even))
 
-  steps : ℕ
+  abbrev steps : ℕ
   steps = even_steps pts
 
   steps_is : steps ≡ last.at
   steps_is = let many : length (even_places pts) ≡ suc last.at = ap length places ∙ last.long in omega arith
 
-  share : ℕ → ℕ
+  abbrev share : ℕ → ℕ
   share i = i * steps / count
 
   place_is : (i : ℕ) → cut_place pts count i ≡ get_or xs (share i) 0

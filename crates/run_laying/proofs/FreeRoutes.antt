@@ -36,10 +36,10 @@ allowed_clockwise round f s o d allowed is = by_port (allowed_port (is_allowed r
 
 module _ (graph : GraphParts) (k : Sketch) (h : IsLegalSketch graph k) (n e : ℕ) (s l : SegId) (w : PlainWalk) (from_stands : is_standing k n ≡ true) (to_stands : is_standing k e ≡ true) (differ : n ≡ e → ⊥)
     (is : route (board_of k) (end_at graph (board_under k) s n) (end_at graph (board_under k) l e) ≡ Some w) where
-  from : End
+  abbrev from : End
   from = end_at graph (board_under k) s n
 
-  to : End
+  abbrev to : End
   to = end_at graph (board_under k) l e
 
   r : IsRoute (board_of k) from to w

@@ -103,16 +103,16 @@ module _ (graph : GraphParts) (fit : IsConsistent graph) (k : Sketch) (h : IsLeg
 module _ (graph : GraphParts) (fit : IsConsistent graph) (k : Sketch) (h : IsLegalSketch graph k) (n : NodeId) (t : ChainStep) (u l : SegId) (e : ℕ) (w v rest : PlainWalk) (f : IsFreeWalk graph k n.0 e t.seg l w)
     (split : IsSplit w v rest) (segment : t.seg.0 < length graph.ends) (leads : LeadsTo graph n t) (none : walk_in k t.seg ≡ None) (node : t.to.0 < length graph.kinds) (lifted : is_standing k t.to.0 ≡ false)
     (alone : MeetAlone graph t.seg t.to u) (none_next : walk_in k u ≡ None) (next : u.0 ≡ t.seg.0 → ⊥) where
-  p : GridPoint
+  abbrev p : GridPoint
   p = end_point v
 
-  x : PlainWalk
+  abbrev x : PlainWalk
   x = from_low graph t.seg n v
 
-  k1 : Sketch
+  abbrev k1 : Sketch
   k1 = stood k t.to p
 
-  k2 : Sketch
+  abbrev k2 : Sketch
   k2 = with_piece graph n t v k
 
   -- the two ends of the whole walk are not where it is split

@@ -103,20 +103,20 @@ points_back p (d ∷ ds) =
 -- lists from back to front
 in_back : (xs : List GridPoint) (x : GridPoint) → In x (reverse xs) → In x xs
 in_back [] x m = m
-in_back (y ∷ ys) x m = which (in_append x (reverse ys) (y ∷ []) (subst (λ (v : List GridPoint). In x v) (reverse-append (y ∷ []) ys) m))
+in_back (y ∷ ys) x m = which (λ k. in_back ys x k) (in_append x (reverse ys) (y ∷ []) (subst (λ (v : List GridPoint). In x v) (reverse-append (y ∷ []) ys) m))
   where
-    which : In x (reverse ys) ⊎ In x (y ∷ []) → In x (y ∷ ys)
-    which (inl k) = inr (in_back ys x k)
-    which (inr (inl e)) = inl e
-    which (inr (inr n)) = absurd n
+    which : (In x (reverse ys) → In x ys) → In x (reverse ys) ⊎ In x (y ∷ []) → In x (y ∷ ys)
+    which rest (inl k) = inr (rest k)
+    which rest (inr (inl e)) = inl e
+    which rest (inr (inr n)) = absurd n
 
 to_back : (xs : List GridPoint) (x : GridPoint) → In x xs → In x (reverse xs)
 to_back [] x m = m
-to_back (y ∷ ys) x m = subst (λ (v : List GridPoint). In x v) (sym (reverse-append (y ∷ []) ys)) (which m)
+to_back (y ∷ ys) x m = subst (λ (v : List GridPoint). In x v) (sym (reverse-append (y ∷ []) ys)) (which (λ k. to_back ys x k) m)
   where
-    which : In x (y ∷ ys) → In x (reverse ys ++ y ∷ [])
-    which (inl e) = in_right x (reverse ys) (y ∷ []) (inl e)
-    which (inr k) = in_left x (reverse ys) (y ∷ []) (to_back ys x k)
+    which : (In x ys → In x (reverse ys)) → In x (y ∷ ys) → In x (reverse ys ++ y ∷ [])
+    which rest (inl e) = in_right x (reverse ys) (y ∷ []) (inl e)
+    which rest (inr k) = in_left x (reverse ys) (y ∷ []) (rest k)
 
 distinct_back : (ps : List GridPoint) → are_distinct ps ≡ true → are_distinct (reverse ps) ≡ true
 distinct_back [] e = refl
