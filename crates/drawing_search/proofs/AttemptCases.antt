@@ -59,27 +59,26 @@ point_still : (j : Sketch) (ms : List (NodeId × GridPoint)) (n : ℕ) → (IsPu
 point_still j [] n out = refl
 point_still j (m ∷ ms) n out = point_still (stood_at j m) ms n (λ (p, i, same). out (p, inr i, same)) ∙ get_or-set_other j.points m.0.0 n m.1 nowhere (λ e. out (m, inl refl, sym e))
 
+-- another node that stands changes nothing
+others_after : (k : Sketch) (m : NodeId) (p : GridPoint) (v : Vector) (n : NodeId) → (m.0 ≡ n.0 → ⊥) → (ps : List (NodeId × GridPoint)) → point_after k v ps n ≡ point_after (stood_at k (m, p)) v ps n
+others_after k m p v n f [] = sym (get_or-set_other k.points m.0 n.0 p nowhere (λ e. f (sym e)))
+others_after k m p v n f (q ∷ ps) = ap (cond (eqb q.0.0 n.0) (moved_by v q.1)) (others_after k m p v n f ps)
+
 point_after_is : (k : Sketch) (v : Vector) (ms : List (NodeId × GridPoint)) (n : NodeId) → n.0 < length k.points → ArePutOnce (all_moved v ms) → point_after k v ms n ≡ point_of_node (fold stood_at k (all_moved v ms)) n.0
 point_after_is k v [] n below once = refl
-point_after_is k v (m ∷ ms) n below once = by_number (cases_eq m.0.0 n.0)
+point_after_is k v (m ∷ ms) n below once =
+    by_number (point_after_is (stood_at k (m.0, moved_by v m.1)) v ms n (omega (arith, below, length-set k.points m.0.0 (moved_by v m.1))) once.1) (cases_eq m.0.0 n.0)
   where
     next : Sketch
     next = stood_at k (m.0, moved_by v m.1)
 
-    others : (m.0.0 ≡ n.0 → ⊥) → (ps : List (NodeId × GridPoint)) → point_after k v ps n ≡ point_after next v ps n
-    others f [] = sym (get_or-set_other k.points m.0.0 n.0 (moved_by v m.1) nowhere (λ e. f (sym e)))
-    others f (p ∷ ps) = ap (cond (eqb p.0.0 n.0) (moved_by v p.1)) (others f ps)
-
-    by_number : (m.0.0 ≡ n.0) ⊎ (m.0.0 ≡ n.0 → ⊥) → cond (eqb m.0.0 n.0) (moved_by v m.1) (point_after k v ms n) ≡ point_of_node (fold stood_at next (all_moved v ms)) n.0
-    by_number (inl e) =
+    by_number : point_after next v ms n ≡ point_of_node (fold stood_at next (all_moved v ms)) n.0 → (m.0.0 ≡ n.0) ⊎ (m.0.0 ≡ n.0 → ⊥) → cond (eqb m.0.0 n.0) (moved_by v m.1) (point_after k v ms n) ≡ point_of_node (fold stood_at next (all_moved v ms)) n.0
+    by_number later (inl e) =
         ap (λ b. cond b (moved_by v m.1) (point_after k v ms n)) (eq-eqb m.0.0 n.0 e)
         ∙ sym (point_still next (all_moved v ms) n.0 (λ (p, i, same). once.0 (p, i, same ∙ sym e))
         ∙ ap (λ i. get_or (set k.points m.0.0 (moved_by v m.1)) i nowhere) (sym e)
         ∙ get_or-set_same k.points m.0.0 (moved_by v m.1) nowhere (omega (arith, below, e)))
-    by_number (inr f) =
-        ap (λ b. cond b (moved_by v m.1) (point_after k v ms n)) (ne_eqb m.0.0 n.0 f)
-        ∙ others f ms
-        ∙ point_after_is next v ms n (omega (arith, below, length-set k.points m.0.0 (moved_by v m.1))) once.1
+    by_number later (inr f) = ap (λ b. cond b (moved_by v m.1) (point_after k v ms n)) (ne_eqb m.0.0 n.0 f) ∙ others_after k m.0 (moved_by v m.1) v n f ms ∙ later
 
 module _ (graph : GraphParts) (fit : IsConsistent graph) (scale : Scale) (first : List GridPoint) (g : Group) (v : Vector) (whole old : Sketch) (weight : ℕ) (l : Lifted) (apart : AreApart g.nodes) (s : IsSettled scale graph first whole weight)
     (fits : IsFitting graph (attempt_by g v)) (off : IsLifted scale graph first g whole old l) where

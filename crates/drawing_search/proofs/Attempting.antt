@@ -51,15 +51,16 @@ alike_whole j k a stands =
 pub all_alike : (graph : GraphParts) → IsConsistent graph → (cs : List Chain) (j k : Sketch) → AreAlike j k → IsLegalSketch graph k → ((c : Chain) → In c cs → IsRun graph c) → AreBeside cs → ((c : Chain) → In c cs → IsClearFor k c)
     → ComesAlike (all_laid graph cs j) (all_laid graph cs k)
 all_alike graph fit [] j k a h runs beside clear = a
-all_alike graph fit (c ∷ cs) j k a h runs beside clear = by_both (laid graph c j) (laid graph c k) refl (laid_alike graph c j k a (clear c (inl refl)).from (clear c (inl refl)).end)
+all_alike graph fit (c ∷ cs) j k a h runs beside clear = by_both (λ i m same legal ready. all_alike graph fit cs i m same legal (λ d x. runs d (inr x)) beside.1 ready) (laid graph c j) (laid graph c k) refl (laid_alike graph c j k a (clear c (inl refl)).from (clear c (inl refl)).end)
   where
-    by_both : (o p : Option Sketch) → laid graph c k ≡ p → ComesAlike o p → ComesAlike (if_laid (all_laid graph cs) o) (if_laid (all_laid graph cs) p)
-    by_both None None e same = tt
-    by_both None (Some m) e same = absurd same
-    by_both (Some i) None e same = absurd same
-    by_both (Some i) (Some m) e same =
+    by_both : ((i m : Sketch) → AreAlike i m → IsLegalSketch graph m → ((d : Chain) → In d cs → IsClearFor m d) → ComesAlike (all_laid graph cs i) (all_laid graph cs m)) → (o p : Option Sketch) → laid graph c k ≡ p → ComesAlike o p
+        → ComesAlike (if_laid (all_laid graph cs) o) (if_laid (all_laid graph cs) p)
+    by_both rest None None e same = tt
+    by_both rest None (Some m) e same = absurd same
+    by_both rest (Some i) None e same = absurd same
+    by_both rest (Some i) (Some m) e same =
         let on = laid_on graph fit c k m h (runs c (inl refl)) (clear c (inl refl)) e in
-        all_alike graph fit cs i m same on.legal (λ d x. runs d (inr x)) beside.1
+        rest i m same on.legal
         (λ d x. subst (λ (y : Sketch). IsClearFor y d) on.is (still_clear graph fit c d on.pieces k (runs c (inl refl)) (runs d (inr x)) (λ q p on_c on_d. beside_off c cs beside d x q p on_c on_d) (clear d (inr x))))
 
 -- bounds of runs beside the same walks

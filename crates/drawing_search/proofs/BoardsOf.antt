@@ -43,10 +43,10 @@ board_stood k n p there below e = λ i. record {
 
 -- a node that stood is taken off
 module _ (graph : GraphParts) (k : Sketch) (h : IsLegalSketch graph k) (n : NodeId) (stands : is_standing k n.0 ≡ true) where
-  p : GridPoint
+  abbrev p : GridPoint
   p = point_of_node k n.0
 
-  off : Sketch
+  abbrev off : Sketch
   off = lifted k n
 
   -- a node stands there that stood, and isn't the one

@@ -31,11 +31,11 @@ few_once graph ts once all_below =
   where
     below : (us : List ChainStep) → ((t : ChainStep) → In t us → t.seg.0 < length graph.ends) → (q : ℕ) → list_any (eqb q) (map (λ (t : ChainStep). t.seg.0) us) ≡ true → q < length graph.ends
     below [] all q e = absurd (true≢false (sym e))
-    below (u ∷ us) all q e = by_first (or_cases (eqb q u.seg.0) (list_any (eqb q) (map (λ (t : ChainStep). t.seg.0) us)) e)
+    below (u ∷ us) all q e = by_first (λ f. below us (λ t i. all t (inr i)) q f) (or_cases (eqb q u.seg.0) (list_any (eqb q) (map (λ (t : ChainStep). t.seg.0) us)) e)
       where
-        by_first : (eqb q u.seg.0 ≡ true) ⊎ (list_any (eqb q) (map (λ (t : ChainStep). t.seg.0) us) ≡ true) → q < length graph.ends
-        by_first (inl f) = omega (arith, eqb-true q u.seg.0 f, all u (inl refl))
-        by_first (inr f) = below us (λ t i. all t (inr i)) q f
+        by_first : (list_any (eqb q) (map (λ (t : ChainStep). t.seg.0) us) ≡ true → q < length graph.ends) → (eqb q u.seg.0 ≡ true) ⊎ (list_any (eqb q) (map (λ (t : ChainStep). t.seg.0) us) ≡ true) → q < length graph.ends
+        by_first rest (inl f) = omega (arith, eqb-true q u.seg.0 f, all u (inl refl))
+        by_first rest (inr f) = rest f
 
 -- so a run has at most 20,000 steps
 pub run_few : (graph : GraphParts) → IsConsistent graph → (c : Chain) → IsRun graph c → length c.steps ≤ 20000
@@ -58,8 +58,8 @@ apart_few most ns apart all_below =
   where
     below : (ms : List NodeId) → ((n : NodeId) → In n ms → n.0 < most) → (q : ℕ) → list_any (eqb q) (map (λ (n : NodeId). n.0) ms) ≡ true → q < most
     below [] all q e = absurd (true≢false (sym e))
-    below (m ∷ ms) all q e = by_first (or_cases (eqb q m.0) (list_any (eqb q) (map (λ (n : NodeId). n.0) ms)) e)
+    below (m ∷ ms) all q e = by_first (λ f. below ms (λ n i. all n (inr i)) q f) (or_cases (eqb q m.0) (list_any (eqb q) (map (λ (n : NodeId). n.0) ms)) e)
       where
-        by_first : (eqb q m.0 ≡ true) ⊎ (list_any (eqb q) (map (λ (n : NodeId). n.0) ms) ≡ true) → q < most
-        by_first (inl f) = omega (arith, eqb-true q m.0 f, all m (inl refl))
-        by_first (inr f) = below ms (λ n i. all n (inr i)) q f
+        by_first : (list_any (eqb q) (map (λ (n : NodeId). n.0) ms) ≡ true → q < most) → (eqb q m.0 ≡ true) ⊎ (list_any (eqb q) (map (λ (n : NodeId). n.0) ms) ≡ true) → q < most
+        by_first rest (inl f) = omega (arith, eqb-true q m.0 f, all m (inl refl))
+        by_first rest (inr f) = rest f

@@ -24,15 +24,15 @@ use Rattle.drawing_search.proofs.Takable.{in_from}
 -- a pair comes of a join
 pub of_join : (js : List Join) (p : SegId × SegId) → In p (joined_pairs js) → (j : Join) × In j js × (p ≡ (j.e, j.f))
 of_join [] p m = absurd m
-of_join (j ∷ js) p m = by_test (list_any (join_same j) js) m
+of_join (j ∷ js) p m = by_test (λ k. of_join js p k) (list_any (join_same j) js) m
   where
-    later : In p (joined_pairs js) → (i : Join) × In i (j ∷ js) × (p ≡ (i.e, i.f))
-    later k = let found = of_join js p k in (found.0, inr found.1, found.2)
+    later : (i : Join) × In i js × (p ≡ (i.e, i.f)) → (i : Join) × In i (j ∷ js) × (p ≡ (i.e, i.f))
+    later found = (found.0, inr found.1, found.2)
 
-    by_test : (b : Bool) → In p (cond b (joined_pairs js) ((j.e, j.f) ∷ joined_pairs js)) → (i : Join) × In i (j ∷ js) × (p ≡ (i.e, i.f))
-    by_test true k = later k
-    by_test false (inl e) = (j, inl refl, e)
-    by_test false (inr k) = later k
+    by_test : (In p (joined_pairs js) → (i : Join) × In i js × (p ≡ (i.e, i.f))) → (b : Bool) → In p (cond b (joined_pairs js) ((j.e, j.f) ∷ joined_pairs js)) → (i : Join) × In i (j ∷ js) × (p ≡ (i.e, i.f))
+    by_test rest true k = later (rest k)
+    by_test rest false (inl e) = (j, inl refl, e)
+    by_test rest false (inr k) = later (rest k)
 
 -- a pair at a node: two segments of its round, the lesser first
 pub record IsJoined (graph : GraphParts) (n : ℕ) (p : SegId × SegId) : Type 0 where

@@ -34,7 +34,7 @@ use Rattle.run_laying.proofs.Shown.{stands_below}
 use Rattle.run_laying.proofs.RunFacts.{contains_in, end_below, inner_of, leads_to, once_first, only_two, step_of, IsInner, IsOff}
 use Rattle.drawing_search.specs.Changes.{AreApart}
 use Rattle.drawing_search.specs.Gains.{apart_in, first_point, has_segment, node_weight_in, pairs_at, run_gain, segment_weight, sketch_weight, step_gain, steps_gain, turn_by, turn_if, turn_in, turns_by, turns_from, turns_in, walk_weight_if}
-use Rattle.drawing_search.proofs.FieldFacts.{pair_below, pair_joined}
+use Rattle.drawing_search.proofs.FieldFacts.{pair_below, pair_joined, IsJoined}
 use Rattle.drawing_search.proofs.Growing.{grown, in_range, is_one_of, same_sum, sum_both, sum_grows, sum_map, AreDifferent}
 use Rattle.drawing_search.proofs.TurnSums.{turn_same_back, turn_turned}
 use Rattle.drawing_search.proofs.Takable.{inner_apart, on_or_off}
@@ -126,11 +126,11 @@ over_turned (Some e) d = turn_turned (reverse_of e) d ∙ sym (turn_same_back d 
 -- what is in lists of numbers
 one_of : (xs : List ℕ) (x : ℕ) → is_one_of xs x ≡ true → In x xs
 one_of [] x e = cc
-one_of (y ∷ ys) x e = by_first (or_cases (eqb x y) (is_one_of ys x) e)
+one_of (y ∷ ys) x e = by_first (λ f. one_of ys x f) (or_cases (eqb x y) (is_one_of ys x) e)
   where
-    by_first : (eqb x y ≡ true) ⊎ (is_one_of ys x ≡ true) → (x ≡ y) ⊎ In x ys
-    by_first (inl a) = inl (eqb-true x y a)
-    by_first (inr b) = inr (one_of ys x b)
+    by_first : (is_one_of ys x ≡ true → In x ys) → (eqb x y ≡ true) ⊎ (is_one_of ys x ≡ true) → (x ≡ y) ⊎ In x ys
+    by_first rest (inl a) = inl (eqb-true x y a)
+    by_first rest (inr b) = inr (rest b)
 
 one_from : (xs : List ℕ) (x : ℕ) → In x xs → is_one_of xs x ≡ true
 one_from [] x i = absurd i
@@ -218,6 +218,7 @@ module _ (graph : GraphParts) (fit : IsConsistent graph) (k : Sketch) (h : IsLeg
     one_turn : (pair : SegId × SegId) → In pair (pairs_at graph n) → turn_in graph new n pair ≡ turn_in graph k n pair + turn_if graph new n s pair
     one_turn pair i = by_first (cases_Bool (eqb pair.0.0 s.0)) (cases_Bool (eqb pair.1.0 s.0))
       where
+        joined : IsJoined graph n pair
         joined = pair_joined graph fit n node pair i
 
         counted : has_segment s pair ≡ true → turn_in graph k n pair ≡ 0 → turn_in graph new n pair ≡ turn_in graph k n pair + turn_if graph new n s pair
@@ -238,6 +239,7 @@ module _ (graph : GraphParts) (fit : IsConsistent graph) (k : Sketch) (h : IsLeg
     turn_by_port : (d : Dir) → port_at_node graph (board_under new) n s ≡ Some d → (pair : SegId × SegId) → In pair (pairs_at graph n) → turn_if graph new n s pair ≡ turn_by graph k n s d pair
     turn_by_port d port pair i = by_first (cases_Bool (eqb pair.0.0 s.0)) (cases_Bool (eqb pair.1.0 s.0))
       where
+        joined : IsJoined graph n pair
         joined = pair_joined graph fit n node pair i
 
         other_port : (t : SegId) → In t (get_or graph.rounds n []) → (t.0 ≡ s.0 → ⊥) → port_at_node graph (board_under new) n t ≡ port_at_node graph (board_under k) n t
@@ -297,6 +299,7 @@ module _ (graph : GraphParts) (fit : IsConsistent graph) (k : Sketch) (h : IsLeg
     first_has : (pair : SegId × SegId) → In pair (pairs_at graph t.to.0) → has_segment t.seg pair ≡ true
     first_has pair i = by_first (one_of_two pair.0 joined.lesser) (one_of_two pair.1 joined.greater)
       where
+        joined : IsJoined graph t.to.0 pair
         joined = pair_joined graph fit t.to.0 node pair i
 
         by_first : (pair.0 ≡ t.seg) ⊎ (pair.0 ≡ u.seg) → (pair.1 ≡ t.seg) ⊎ (pair.1 ≡ u.seg) → has_segment t.seg pair ≡ true

@@ -44,7 +44,7 @@ past_it f x a lo (suc n) h =
 
 pub at_one : (f : ℕ → ℕ) (x a lo n : ℕ) → lo ≤ x → x < lo + n → sum_by (one_more f x a) (range_with_len lo n) ≡ sum_by f (range_with_len lo n) + a
 at_one f x a lo zero low high = absurd (omega (arith, low, high))
-at_one f x a lo (suc n) low high = by_first (cases_eq lo x)
+at_one f x a lo (suc n) low high = by_first (λ order. at_one f x a (lo + 1) n order (omega (arith, high))) (cases_eq lo x)
   where
     with_more : sum_by (one_more f x a) (range_with_len lo (suc n)) ≡ f lo + cond (eqb lo x) a 0 + sum_by (one_more f x a) (range_with_len (lo + 1) n)
     with_more = sum_by-cons (one_more f x a) lo (range_with_len (lo + 1) n)
@@ -52,14 +52,15 @@ at_one f x a lo (suc n) low high = by_first (cases_eq lo x)
     without : sum_by f (range_with_len lo (suc n)) ≡ f lo + sum_by f (range_with_len (lo + 1) n)
     without = sum_by-cons f lo (range_with_len (lo + 1) n)
 
-    by_first : (lo ≡ x) ⊎ (lo ≡ x → ⊥) → sum_by (one_more f x a) (range_with_len lo (suc n)) ≡ sum_by f (range_with_len lo (suc n)) + a
-    by_first (inl e) =
+    by_first : (lo + 1 ≤ x → sum_by (one_more f x a) (range_with_len (lo + 1) n) ≡ sum_by f (range_with_len (lo + 1) n) + a) → (lo ≡ x) ⊎ (lo ≡ x → ⊥)
+        → sum_by (one_more f x a) (range_with_len lo (suc n)) ≡ sum_by f (range_with_len lo (suc n)) + a
+    by_first next (inl e) =
         let here : cond (eqb lo x) a 0 ≡ a = ap (λ b. cond b a 0) (eq-eqb lo x e) in
         let rest = past_it f x a (lo + 1) n (omega (arith, e)) in
         omega (arith, here, rest, with_more, without)
-    by_first (inr differ) =
+    by_first next (inr differ) =
         let here : cond (eqb lo x) a 0 ≡ 0 = ap (λ b. cond b a 0) (ne_eqb lo x differ) in
-        let rest = at_one f x a (lo + 1) n (order (cases_eq lo x)) (omega (arith, high)) in
+        let rest = next (order (cases_eq lo x)) in
         omega (arith, here, rest, with_more, without)
       where
         order : (lo ≡ x) ⊎ (lo ≡ x → ⊥) → lo + 1 ≤ x

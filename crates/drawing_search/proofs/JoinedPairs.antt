@@ -110,11 +110,8 @@ apart_code a b (inr (g, h)) f e = by_last (cases_Bool (eqb a.f.0 b.f.0))
 
 rising : (js : List Join) → AreSorted js → AreBelow js → (low : ℕ) → ((k : Join) → In k js → low ≤ join_code k) → AreRisingFrom low (joined_pairs js)
 rising [] s below low from = tt
-rising (j ∷ js) s below low from = by_test (list_any (join_same j) js) refl
+rising (j ∷ js) s below low from = by_test (λ bound h. rising js (sorted_rest j js s) (λ k m. below k (inr m)) bound h) (list_any (join_same j) js) refl
   where
-    rest : (bound : ℕ) → ((k : Join) → In k js → bound ≤ join_code k) → AreRisingFrom bound (joined_pairs js)
-    rest bound h = rising js (sorted_rest j js s) (λ k m. below k (inr m)) bound h
-
     past : list_any (join_same j) js ≡ false → (k : Join) → In k js → join_code j + 1 ≤ join_code k
     past f k m = omega (arith, apart_code j k (later j js s k m) (below j (inl refl)).1 (differ (cases_Bool (join_same j k))))
       where
@@ -122,9 +119,9 @@ rising (j ∷ js) s below low from = by_test (list_any (join_same j) js) refl
         differ (inl e) = absurd (true≢false (sym (any_from (join_same j) js k m e) ∙ f))
         differ (inr e) = e
 
-    by_test : (b : Bool) → list_any (join_same j) js ≡ b → AreRisingFrom low (cond b (joined_pairs js) ((j.e, j.f) ∷ joined_pairs js))
-    by_test true e = rest low (λ k m. from k (inr m))
-    by_test false e = (from j (inl refl), omega (arith, below j (inl refl)), rest (join_code j + 1) (past e))
+    by_test : ((bound : ℕ) → ((k : Join) → In k js → bound ≤ join_code k) → AreRisingFrom bound (joined_pairs js)) → (b : Bool) → list_any (join_same j) js ≡ b → AreRisingFrom low (cond b (joined_pairs js) ((j.e, j.f) ∷ joined_pairs js))
+    by_test rest true e = rest low (λ k m. from k (inr m))
+    by_test rest false e = (from j (inl refl), omega (arith, below j (inl refl)), rest (join_code j + 1) (past e))
 
 pub few_pairs : (js : List Join) → AreSorted js → AreBelow js → length (joined_pairs js) ≤ 400000000
 few_pairs js s below = few_rising 0 (joined_pairs js) (omega arith) (rising js s below 0 (λ k m. omega arith))

@@ -24,7 +24,7 @@ use Rattle.walk_search.specs.Routes.{allows, directions}
 use Rattle.segment_router.specs.Ports.{is_allowed, stops_from, with_port, with_stop}
 use Rattle.segment_router.specs.Routes.{end_at, port_at_node, port_by}
 use Rattle.segment_router.proofs.ClockLemmas.{bit_told}
-use Rattle.segment_router.proofs.RouteLemmas.{in_filter, route_parts}
+use Rattle.segment_router.proofs.RouteLemmas.{in_filter, route_parts, IsRoute}
 use Rattle.segment_router.proofs.SettledLemmas.{nowhere}
 use Rattle.drawing_weights.specs.Scales.{turn_over, Scale}
 use Rattle.run_laying.specs.Attempts.{inner_nodes}
@@ -84,11 +84,11 @@ module _ (graph : GraphParts) (k j : Sketch) (more : HasMore k j) where
   some_stop [] s d f i m = absurd m
   some_stop (x ∷ xs) s d f i (inl e) =
       subst (λ (o : Option Dir). 0 < length (with_stop i o (stops_from (i + 1) (with_port s d f) xs))) (sym (ap (λ b. cond b (Some d) (f x)) (eq-eqb s.0 x.0 (ap (λ (t : SegId). t.0) e)))) (omega arith)
-  some_stop (x ∷ xs) s d f i (inr m) = by_port (with_port s d f x)
+  some_stop (x ∷ xs) s d f i (inr m) = by_port (some_stop xs s d f (i + 1) m) (with_port s d f x)
     where
-      by_port : (o : Option Dir) → 0 < length (with_stop i o (stops_from (i + 1) (with_port s d f) xs))
-      by_port None = some_stop xs s d f (i + 1) m
-      by_port (Some e) = omega arith
+      by_port : 0 < length (stops_from (i + 1) (with_port s d f) xs) → (o : Option Dir) → 0 < length (with_stop i o (stops_from (i + 1) (with_port s d f) xs))
+      by_port rest None = rest
+      by_port rest (Some e) = omega arith
 
   -- a port that is allowed beside more walks is so beside fewer
   pub allowed_still : (n : ℕ) (s : SegId) (d : Dir) → In s (get_or graph.rounds n []) → allows (ports_for graph j n s) (Some d) ≡ true → allows (ports_for graph k n s) (Some d) ≡ true
@@ -187,6 +187,7 @@ module _ (graph : GraphParts) (fit : IsConsistent graph) (scale : Scale) (first 
         within = run_within graph fit k h c run clear on.pieces on.each there scale first on.walk on.cut some on.free.start on.free.end r.leaves r.arrives l bound;
       })
     where
+      r : IsRoute (board_of k) (end_at graph (board_under k) (first_seg_of c.steps) c.from.0) (end_at graph (board_under k) (last_seg_of c) (end_of c).0) on.walk
       r = route_parts (board_of k) (end_at graph (board_under k) (first_seg_of c.steps) c.from.0) (end_at graph (board_under k) (last_seg_of c) (end_of c).0) on.walk on.route
 
       there : point_of_node (with_pieces graph c.from c.steps on.pieces k) (end_of c).0 ≡ point_of_node k (end_of c).0
@@ -258,7 +259,8 @@ module _ (graph : GraphParts) (fit : IsConsistent graph) (scale : Scale) (first 
       → sketch_weight scale graph first k + gains_at_least (λ (n : NodeId). point_of_node k n.0) cs ls ≤ sketch_weight scale graph first fin
   rest_no_less [] ls k fin h runs beside clear have e = let same : k ≡ fin = cc in omega (arith, ap (sketch_weight scale graph first) same)
   rest_no_less (c ∷ cs) [] k fin h runs beside clear have e = absurd have
-  rest_no_less (c ∷ cs) (l ∷ ls) k fin h runs beside clear have e = by_laid (laid graph c k) refl e
+  rest_no_less (c ∷ cs) (l ∷ ls) k fin h runs beside clear have e =
+      by_laid (λ mid legal ready bounds found. rest_no_less cs ls mid fin legal (λ d i. runs d (inr i)) beside.1 ready bounds found) (laid graph c k) refl e
     where
       here : IsClearFor k c
       here = clear c (inl refl)
@@ -266,16 +268,20 @@ module _ (graph : GraphParts) (fit : IsConsistent graph) (scale : Scale) (first 
       run : IsRun graph c
       run = runs c (inl refl)
 
-      of_laid : (mid : Sketch) → IsLaidOn graph c k mid → all_laid graph cs mid ≡ Some fin → sketch_weight scale graph first k + gains_at_least (λ (n : NodeId). point_of_node k n.0) (c ∷ cs) (l ∷ ls) ≤ sketch_weight scale graph first fin
-      of_laid mid on found =
+      Rest : Type 0
+      Rest = (mid : Sketch) → IsLegalSketch graph mid → ((d : Chain) → In d cs → IsClearFor mid d) → HaveBounds scale graph mid cs ls → all_laid graph cs mid ≡ Some fin
+          → sketch_weight scale graph first mid + gains_at_least (λ (n : NodeId). point_of_node mid n.0) cs ls ≤ sketch_weight scale graph first fin
+
+      of_laid : Rest → (mid : Sketch) → IsLaidOn graph c k mid → all_laid graph cs mid ≡ Some fin → sketch_weight scale graph first k + gains_at_least (λ (n : NodeId). point_of_node k n.0) (c ∷ cs) (l ∷ ls) ≤ sketch_weight scale graph first fin
+      of_laid rest mid on found =
           let g = gained c k mid l h run here have.0 on in
           let more = more_walks c k mid here on in
-          let later = rest_no_less cs ls mid fin on.legal (λ d i. runs d (inr i)) beside.1
+          let later = rest mid on.legal
           (λ d i. subst (λ (j : Sketch). IsClearFor j d) on.is (still_clear graph fit c d on.pieces k run (runs d (inr i)) (λ q p on_c on_d. beside_off c cs beside d i q p on_c on_d) (clear d (inr i))))
           (bounds_still k mid more cs ls (λ d i. runs d (inr i)) have.1) found in
           let same = gains_stay c k mid h here on cs ls (λ d i. clear d (inr i)) in
           omega (arith, g.weight, g.no_less, later, same)
 
-      by_laid : (o : Option Sketch) → laid graph c k ≡ o → if_laid (all_laid graph cs) o ≡ Some fin → sketch_weight scale graph first k + gains_at_least (λ (n : NodeId). point_of_node k n.0) (c ∷ cs) (l ∷ ls) ≤ sketch_weight scale graph first fin
-      by_laid None is found = cc
-      by_laid (Some mid) is found = of_laid mid (laid_on graph fit c k mid h run here is) found
+      by_laid : Rest → (o : Option Sketch) → laid graph c k ≡ o → if_laid (all_laid graph cs) o ≡ Some fin → sketch_weight scale graph first k + gains_at_least (λ (n : NodeId). point_of_node k n.0) (c ∷ cs) (l ∷ ls) ≤ sketch_weight scale graph first fin
+      by_laid rest None is found = cc
+      by_laid rest (Some mid) is found = of_laid rest mid (laid_on graph fit c k mid h run here is) found

@@ -75,10 +75,10 @@ module _ (graph : GraphParts) (fit : IsConsistent graph) (scale : Scale) (first 
       by_laid (Some fin) is = below_none (sketch_weight scale graph first) weight fin (omega (arith, heavy, rest_no_less graph fit scale first cs ls k fin ready.legal ready.runs ready.beside ready.clear ready.have is))
 
   module _ (c : Chain) (cs : List Chain) (l : LeastTurns) (ls : List LeastTurns) (k : Sketch) (ready : IsReady scale graph k (c ∷ cs) (l ∷ ls)) where
-    from : GridPoint
+    abbrev from : GridPoint
     from = point_of_node k c.from.0
 
-    to : GridPoint
+    abbrev to : GridPoint
     to = point_of_node k (end_of c).0
 
     -- the next run is laid

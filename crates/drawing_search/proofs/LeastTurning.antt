@@ -62,7 +62,7 @@ module _ (scale : Scale) (graph : GraphParts) (k : Sketch) (c : Chain) where
   abbrev to_over : Dir → Option ℕ
   to_over e = overs_by scale graph k (end_of c).0 (last_seg_of c) e
 
-  price : ℕ
+  abbrev price : ℕ
   price = turn_price scale graph c.steps
 
   -- the values of all ports by which a walk may come
@@ -91,7 +91,7 @@ module _ (scale : Scale) (graph : GraphParts) (k : Sketch) (c : Chain) where
       × ((fold (λ (m : LeastTurns) (d : Dir). with_first_by m d (from_over d) (map to_over directions)) l ds).per_turn ≡ l.per_turn)
       × ((fold (λ (m : LeastTurns) (d : Dir). with_first_by m d (from_over d) (map to_over directions)) l ds).free_turns ≡ l.free_turns)
   first_values l way [] few same = (refl, refl, refl)
-  first_values l way (d ∷ ds) few same = by_test (eqb (bit_at (ports_for graph k c.from.0 (first_seg_of c.steps)) (number_of d)) 1)
+  first_values l way (d ∷ ds) few same = by_test (λ m price_is. first_values m way ds few price_is) (eqb (bit_at (ports_for graph k c.from.0 (first_seg_of c.steps)) (number_of d)) 1)
     where
       all : LeastTurns → LeastTurns
       all m = fold (λ (x : LeastTurns) (e : Dir). with_first_by x e (from_over e) (map to_over directions)) m ds
@@ -114,13 +114,17 @@ module _ (scale : Scale) (graph : GraphParts) (k : Sketch) (c : Chain) where
           ∙ ap (λ p. fold min (slice_index l.by way) (flat_map (λ e. value_if d here p way e (to_over e)) directions)) same
           ∙ ap (fold min (slice_index l.by way)) (allowed_last d way directions)
 
-      by_test : (b : Bool)
+      Rest : Type 0
+      Rest = (m : LeastTurns) → m.per_turn ≡ price
+          → (slice_index (all m).by way ≡ fold min (slice_index m.by way) (flat_map (all_last way) kept)) × ((all m).per_turn ≡ m.per_turn) × ((all m).free_turns ≡ m.free_turns)
+
+      by_test : Rest → (b : Bool)
           → (slice_index (all (with_first_by l d (cond b (Some here) None) (map to_over directions))).by way ≡ fold min (slice_index l.by way) (flat_map (all_last way) (cond b (d ∷ kept) kept)))
           × ((all (with_first_by l d (cond b (Some here) None) (map to_over directions))).per_turn ≡ l.per_turn)
           × ((all (with_first_by l d (cond b (Some here) None) (map to_over directions))).free_turns ≡ l.free_turns)
-      by_test false = first_values l way ds few same
-      by_test true =
-          let rest = first_values next way ds few (next_price.0 ∙ same) in (
+      by_test next_values false = next_values l same
+      by_test next_values true =
+          let rest = next_values next (next_price.0 ∙ same) in (
             rest.0
                 ∙ ap (λ n. fold min n (flat_map (all_last way) kept)) next_value
                 ∙ sym (fold-append min (slice_index l.by way) (all_last way d) (flat_map (all_last way) kept)),

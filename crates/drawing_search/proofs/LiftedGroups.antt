@@ -66,7 +66,7 @@ pub record AreLeastLifted (scale : Scale) (graph : GraphParts) (first : List Gri
   pub small : All IsSmallLeast l.least.items
 
 module _ (graph : GraphParts) (fit : IsConsistent graph) (old : Sketch) (h : IsLegalSketch graph old) (whole : IsWhole old) (nodes : List NodeId) (runs : List Chain) (g : IsGroup graph nodes runs) (scale : Scale) (first : List GridPoint) where
-  weigh : Sketch → ℕ
+  abbrev weigh : Sketch → ℕ
   weigh k = sketch_weight scale graph first k
 
   -- ---- runs

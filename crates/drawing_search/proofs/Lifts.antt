@@ -55,12 +55,12 @@ from_map f (x ∷ xs) y (inr i) = let rest = from_map f xs y i in (rest.0, inr r
 
 from_filter_map : {X Y : Type 0} (f : X → Option Y) (xs : List X) (y : Y) → In y (filter_map f xs) → (x : X) × In x xs × (f x ≡ Some y)
 from_filter_map {X} {Y} f [] y i = absurd i
-from_filter_map {X} {Y} f (x ∷ xs) y i = by_first (f x) refl i
+from_filter_map {X} {Y} f (x ∷ xs) y i = by_first (λ j. from_filter_map f xs y j) (f x) refl i
   where
-    by_first : (o : Option Y) → f x ≡ o → In y (cons_option o (filter_map f xs)) → (z : X) × In z (x ∷ xs) × (f z ≡ Some y)
-    by_first None e j = let rest = from_filter_map f xs y j in (rest.0, inr rest.1, rest.2)
-    by_first (Some z) e (inl same) = (x, inl refl, e ∙ ap (λ v. Some v) (sym same))
-    by_first (Some z) e (inr j) = let rest = from_filter_map f xs y j in (rest.0, inr rest.1, rest.2)
+    by_first : (In y (filter_map f xs) → (z : X) × In z xs × (f z ≡ Some y)) → (o : Option Y) → f x ≡ o → In y (cons_option o (filter_map f xs)) → (z : X) × In z (x ∷ xs) × (f z ≡ Some y)
+    by_first later None e j = let rest = later j in (rest.0, inr rest.1, rest.2)
+    by_first later (Some z) e (inl same) = (x, inl refl, e ∙ ap (λ v. Some v) (sym same))
+    by_first later (Some z) e (inr j) = let rest = later j in (rest.0, inr rest.1, rest.2)
 
 in_filter_map : {X Y : Type 0} (f : X → Option Y) (xs : List X) (x : X) (y : Y) → In x xs → f x ≡ Some y → In y (filter_map f xs)
 in_filter_map {X} {Y} f [] x y i e = absurd i
@@ -416,16 +416,16 @@ module _ (graph : GraphParts) (fit : IsConsistent graph) (old : Sketch) (h : IsL
 
   steps_once : (ts : List ChainStep) → AreOnce ts → AreGivenOnce (walks_along old ts)
   steps_once [] once = tt
-  steps_once (t ∷ ts) once = by_walk (walk_along old t) refl
+  steps_once (t ∷ ts) once = by_walk (steps_once ts once.1) (walk_along old t) refl
     where
       again : (m p : SegId × PlainWalk) → walk_along old t ≡ Some m → In p (walks_along old ts) → p.0.0 ≡ m.0.0 → ⊥
       again m p e i same =
           let at = from_filter_map (walk_along old) ts p i in
           once_first t ts once at.0 at.1 (ap (λ (s : SegId). s.0) (sym (walk_of_step at.0 p at.2).0) ∙ same ∙ ap (λ (s : SegId). s.0) (walk_of_step t m e).0)
 
-      by_walk : (o : Option (SegId × PlainWalk)) → walk_along old t ≡ o → AreGivenOnce (cons_option o (walks_along old ts))
-      by_walk None e = steps_once ts once.1
-      by_walk (Some m) e = (λ (p, i, same). again m p e i same, steps_once ts once.1)
+      by_walk : AreGivenOnce (walks_along old ts) → (o : Option (SegId × PlainWalk)) → walk_along old t ≡ o → AreGivenOnce (cons_option o (walks_along old ts))
+      by_walk rest None e = rest
+      by_walk rest (Some m) e = (λ (p, i, same). again m p e i same, rest)
 
   both_given : (xs ys : List (SegId × PlainWalk)) → AreGivenOnce xs → AreGivenOnce ys → ((m : SegId × PlainWalk) → In m xs → IsGiven m.0.0 ys → ⊥) → AreGivenOnce (xs ++ ys)
   both_given [] ys a b off = b

@@ -23,7 +23,7 @@ pub kept_bounds_by : (b d : BoardFlags) → (parts_of d).bounds ≡ (parts_of b)
 kept_bounds_by b d e = sym (shown_bounds d) ∙ e ∙ shown_bounds b
 
 module _ (b : BoardFlags) (points : List GridPoint) (stand : List Bool) (walks : List (Option PlainWalk)) (k : Sketch) (shown : parts_of b ≡ board_of (sketch_of b points stand walks)) (view : sketch_of b points stand walks ≡ k) where
-  j : Sketch
+  abbrev j : Sketch
   j = sketch_of b points stand walks
 
   pub bounds_kept : (parts_of b).bounds ≡ k.bounds

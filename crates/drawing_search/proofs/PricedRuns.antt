@@ -33,7 +33,7 @@ use Rattle.run_laying.proofs.Reversed.{twice}
 use Rattle.run_laying.proofs.Turned.{port_from, port_to, turned_of}
 use Rattle.drawing_search.specs.Gains.{apart_in, has_segment, pairs_at, segment_weight, step_gain, steps_gain, turn_if, turn_in, turns_from, walk_weight_if}
 use Rattle.drawing_search.specs.Least.{free_nodes, is_free_node}
-use Rattle.drawing_search.proofs.FieldFacts.{pair_joined}
+use Rattle.drawing_search.proofs.FieldFacts.{pair_joined, IsJoined}
 use Rattle.drawing_search.proofs.TurnSums.{cost_parts, steps_append, steps_back, steps_cost, turn_over_cut, turn_same_back, turn_turned, turns_append, turns_back}
 
 -- ---- the walks of segments
@@ -140,6 +140,7 @@ module _ (graph : GraphParts) (fit : IsConsistent graph) (k : Sketch) (scale : S
     one_turn : (pair : SegId × SegId) → In pair (pairs_at graph t.to.0) → turn_if graph k t.to.0 t.seg pair ≡ turn_over_cut (last_of v.steps) (slice_get x.steps 0)
     one_turn pair i = by_first (which pair.0 joined.lesser) (which pair.1 joined.greater)
       where
+        joined : IsJoined graph t.to.0 pair
         joined = pair_joined graph fit t.to.0 node pair i
 
         which : (s : SegId) → In s (get_or graph.rounds t.to.0 []) → (s ≡ t.seg) ⊎ (s ≡ u.seg)

@@ -68,7 +68,7 @@ same_but old k but =
     (same_list None k.walks old.walks but.walks_each (λ s h. but.walks (record { 0 = s }) (λ q i e. i)))
 
 module _ (graph : GraphParts) (fit : IsConsistent graph) (old : Sketch) (h : IsLegalSketch graph old) (n : NodeId) (t : ChainStep) (v : PlainWalk) (is : walk_in old t.seg ≡ Some v) (below : t.seg.0 < length graph.ends) (leads : LeadsTo graph n t) where
-  w : PlainWalk
+  abbrev w : PlainWalk
   w = from_low graph t.seg n v
 
   apart : n.0 ≡ t.to.0 → ⊥

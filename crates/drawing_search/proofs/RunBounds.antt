@@ -93,11 +93,11 @@ in_mapped f (y ∷ ys) x (inr i) = inr (in_mapped f ys x i)
 kept_in : (test : Dir → Bool) (ds : List Dir) (d : Dir) → In d ds → test d ≡ true → In d (filter test ds)
 kept_in test [] d i e = absurd i
 kept_in test (f ∷ ds) d (inl same) e = subst (λ b. In d (cond b (f ∷ filter test ds) (filter test ds))) (sym (ap test (sym same) ∙ e)) (inl same)
-kept_in test (f ∷ ds) d (inr i) e = by_test (test f)
+kept_in test (f ∷ ds) d (inr i) e = by_test (kept_in test ds d i e) (test f)
   where
-    by_test : (b : Bool) → In d (cond b (f ∷ filter test ds) (filter test ds))
-    by_test true = inr (kept_in test ds d i e)
-    by_test false = kept_in test ds d i e
+    by_test : In d (filter test ds) → (b : Bool) → In d (cond b (f ∷ filter test ds) (filter test ds))
+    by_test rest true = inr rest
+    by_test rest false = rest
 
 every_direction : (d : Dir) → In d directions
 every_direction dir.N = inl refl
@@ -182,10 +182,10 @@ module _ (graph : GraphParts) (fit : IsConsistent graph) (k : Sketch) (h : IsLeg
   have : HavePieces graph c.from c.steps pieces new
   have = have_pieces graph c.from c.steps pieces k each run.once (λ q i. omega (arith, (step_of graph c.from c.steps run.steps q i).segment, h.walks_each))
 
-  d : Dir
+  abbrev d : Dir
   d = (some_first w.steps some).0
 
-  e : Dir
+  abbrev e : Dir
   e = (some_end w.steps some).0
 
   leaving : start_port w ≡ Some d
@@ -197,10 +197,10 @@ module _ (graph : GraphParts) (fit : IsConsistent graph) (k : Sketch) (h : IsLeg
   arriving : end_port w ≡ Some (reverse_of e)
   arriving = ap (option_map reverse_of) coming
 
-  way : ℕ
+  abbrev way : ℕ
   way = straight_way (point_of_node k c.from.0) (point_of_node k (end_of c).0)
 
-  overs : ℕ
+  abbrev overs : ℕ
   overs = scale.overs * turns_by graph k c.from.0 (first_seg_of c.steps) d + scale.overs * turns_by graph k (end_of c).0 (last_seg_of c) (reverse_of e)
 
   gain_is : run_gain scale graph first new c ≡ overs + steps_gain scale graph first new c.steps
@@ -213,7 +213,7 @@ module _ (graph : GraphParts) (fit : IsConsistent graph) (k : Sketch) (h : IsLeg
   turned = subst (λ (q : GridPoint). turns_at_least d e (straight_way q (point_of_node k (end_of c).0)) ≤ turns_of w.steps) starts (subst (λ (q : GridPoint). turns_at_least d e (straight_way w.start q) ≤ turns_of w.steps) ends (walk_turns w.start w.steps d e leaving coming))
 
   module _ (l : LeastTurns) (bound : IsBoundOf scale graph k c l) where
-    price : ℕ
+    abbrev price : ℕ
     price = turn_price scale graph c.steps
 
     low : slice_index l.by way ≤ overs + price * turns_of w.steps

@@ -20,9 +20,9 @@ use Rattle.drawing_search.specs.Gains.{sketch_weight}
 use Rattle.drawing_search.specs.Searched.{attempts_in, attempts_of}
 use Rattle.drawing_search.specs.Tries.{after_tries, after_try, IsSettled, Tried}
 use Rattle.drawing_search.specs.Trying.{walks_of}
-use Rattle.drawing_search.proofs.OnWalks.{found_of, tries_there, IsGood}
+use Rattle.drawing_search.proofs.OnWalks.{found_of, tries_there, IsGood, IsThere}
 use Rattle.drawing_search.proofs.Passes.{pass_none, pass_some, passes_full, IsEnough}
-use Rattle.drawing_search.proofs.TriedGroups.{tries_after}
+use Rattle.drawing_search.proofs.TriedGroups.{tries_after, IsAfter}
 
 -- the attempts of groups, one group after another
 pub tries_more : (scale : Scale) (graph : GraphParts) (first : List GridPoint) (most : ℕ) (groups : List Group) (i : ℕ) (d : Group) (f : Tried) → i < length groups
@@ -65,9 +65,14 @@ module _ (scale : Scale) (graph : GraphParts) (fit : IsConsistent graph) (first 
 
     module _ (room : made < most) (new : Sketch) (less more : ℕ) (settled : IsSettled scale graph (points_all graph first) new less)
         (is : (let f : Tried = record { sketch = new; made = more } in f) ≡ after_tries scale graph (points_all graph first) (min most (made + at_once)) (attempts_of groups) (record { sketch = k; made = made })) where
-      come_to : Tried
+      abbrev come_to : Tried
       come_to = record { sketch = new; made = more }
+
+      after : IsAfter scale graph (points_all graph first) (min most (made + at_once)) now (after_tries scale graph (points_all graph first) (min most (made + at_once)) (attempts_of groups) now)
       after = tries_after scale graph (points_all graph first) (min most (made + at_once)) (attempts_of groups) now (omega (arith, room))
+
+      there : IsThere graph fit scale first bounds (after_tries scale graph (points_all graph first) (min most (made + at_once)) (attempts_of groups) now)
+          (after_pass (improving graph bounds (weight_by scale graph first)) (attempts_of groups) (min most (made + at_once)) (found_of graph fit scale first bounds now))
       there = tries_there graph fit scale first bounds (min most (made + at_once)) (attempts_of groups) now b.good fits
 
       found : found_of graph fit scale first bounds come_to ≡ after_pass (improving graph bounds (weight_by scale graph first)) (attempts_of groups) (min most (made + at_once)) (found_of graph fit scale first bounds now)

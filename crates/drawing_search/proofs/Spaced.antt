@@ -66,22 +66,22 @@ begun_later count first t x (u ∷ us) order within places near less room =
 
 stops_places : (f : SegId → Option Dir) (round : List SegId) (i high : ℕ) → i + length round ≤ high → AreFrom i high (stops_from i f round)
 stops_places f [] i high h = tt
-stops_places f (x ∷ xs) i high h = by_port (f x)
+stops_places f (x ∷ xs) i high h = by_port (stops_places f xs (i + 1) high (omega (arith, h))) (f x)
   where
     lower : (low next high : ℕ) (ss : List Stop) → low ≤ next → AreFrom next high ss → AreFrom low high ss
     lower low next high [] order places = tt
     lower low next high (s ∷ ss) order places = (omega (arith, order, places.0), places.1, places.2)
 
-    by_port : (o : Option Dir) → AreFrom i high (with_stop i o (stops_from (i + 1) f xs))
-    by_port None = lower i (i + 1) high (stops_from (i + 1) f xs) (omega arith) (stops_places f xs (i + 1) high (omega (arith, h)))
-    by_port (Some d) = (omega arith, omega (arith, h), stops_places f xs (i + 1) high (omega (arith, h)))
+    by_port : AreFrom (i + 1) high (stops_from (i + 1) f xs) → (o : Option Dir) → AreFrom i high (with_stop i o (stops_from (i + 1) f xs))
+    by_port rest None = lower i (i + 1) high (stops_from (i + 1) f xs) (omega arith) rest
+    by_port rest (Some d) = (omega arith, omega (arith, h), rest)
 
 module _ (f h : SegId → Option Dir) (same : (s : SegId) → IsSameOrNone (f s) (h s)) (count : ℕ) where
   -- behind a stop that is there
   fewer_behind : (round : List SegId) (i : ℕ) (first s : Stop) → s.0 < i → i + length round ≤ count → turned_over (gaps_to count first s (stops_from i h round)) ≤ 8 → has_room (gaps_to count first s (stops_from i h round)) ≡ true
       → (has_room (gaps_to count first s (stops_from i f round)) ≡ true) × (turned_over (gaps_to count first s (stops_from i f round)) ≡ turned_over (gaps_to count first s (stops_from i h round)))
   fewer_behind [] i first s before within less room = (room, refl)
-  fewer_behind (x ∷ xs) i first s before within less room = by_ports (f x) (h x) (same x) less room
+  fewer_behind (x ∷ xs) i first s before within less room = by_ports (λ t less_t room_t earlier. fewer_behind xs (i + 1) first t earlier (omega (arith, within)) less_t room_t) (f x) (h x) (same x) less room
     where
       behind_f : List Stop
       behind_f = stops_from (i + 1) f xs
@@ -89,41 +89,45 @@ module _ (f h : SegId → Option Dir) (same : (s : SegId) → IsSameOrNone (f s)
       behind_h : List Stop
       behind_h = stops_from (i + 1) h xs
 
-      by_ports : (o p : Option Dir) → IsSameOrNone o p → turned_over (gaps_to count first s (with_stop i p behind_h)) ≤ 8 → has_room (gaps_to count first s (with_stop i p behind_h)) ≡ true
+      Rest : Type 0
+      Rest = (t : Stop) → turned_over (gaps_to count first t behind_h) ≤ 8 → has_room (gaps_to count first t behind_h) ≡ true → t.0 < i + 1
+          → (has_room (gaps_to count first t behind_f) ≡ true) × (turned_over (gaps_to count first t behind_f) ≡ turned_over (gaps_to count first t behind_h))
+
+      by_ports : Rest → (o p : Option Dir) → IsSameOrNone o p → turned_over (gaps_to count first s (with_stop i p behind_h)) ≤ 8 → has_room (gaps_to count first s (with_stop i p behind_h)) ≡ true
           → (has_room (gaps_to count first s (with_stop i o behind_f)) ≡ true) × (turned_over (gaps_to count first s (with_stop i o behind_f)) ≡ turned_over (gaps_to count first s (with_stop i p behind_h)))
-      by_ports None None e less room = fewer_behind xs (i + 1) first s (omega arith) (omega (arith, within)) less room
-      by_ports (Some d) None (inl e) less room = cc
-      by_ports (Some d) None (inr e) less room = cc
-      by_ports None (Some g) e less room =
+      by_ports behind None None e less room = behind s less room (omega (arith, before))
+      by_ports behind (Some d) None (inl e) less room = cc
+      by_ports behind (Some d) None (inr e) less room = cc
+      by_ports behind None (Some g) e less room =
           let parts = and_parts (nat_le (i - s.0) (distance_to s.1 g)) (has_room (gaps_to count first (i, g) behind_h)) room in
-          let rest = fewer_behind xs (i + 1) first (i, g) (omega arith) (omega (arith, within)) (omega (arith, less)) parts.1 in
+          let rest = behind (i, g) (omega (arith, less)) parts.1 (omega arith) in
           let out = left_out count first s (i, g) behind_f (omega (arith, before)) (omega (arith, within)) (stops_places f xs (i + 1) count (omega (arith, within))) parts.0 (omega (arith, less, rest.1)) rest.0 in
           (out.0, omega (arith, out.1, rest.1))
-      by_ports (Some d) (Some g) (inl e) less room = cc
-      by_ports (Some d) (Some g) (inr e) less room =
+      by_ports behind (Some d) (Some g) (inl e) less room = cc
+      by_ports behind (Some d) (Some g) (inr e) less room =
           let one : d ≡ g = cc in
           let parts = and_parts (nat_le (i - s.0) (distance_to s.1 g)) (has_room (gaps_to count first (i, g) behind_h)) room in
-          let rest = fewer_behind xs (i + 1) first (i, g) (omega arith) (omega (arith, within)) (omega (arith, less)) parts.1 in
+          let rest = behind (i, g) (omega (arith, less)) parts.1 (omega arith) in
           subst (λ (a : Dir). (has_room (gaps_to count first s ((i, a) ∷ behind_f)) ≡ true) × (turned_over (gaps_to count first s ((i, a) ∷ behind_f)) ≡ turned_over (gaps_to count first s ((i, g) ∷ behind_h)))) (sym one)
           (and_from (nat_le (i - s.0) (distance_to s.1 g)) (has_room (gaps_to count first (i, g) behind_f)) parts.0 rest.0, omega (arith, rest.1))
 
   -- there is a stop where there is one of fewer
   no_fewer : (round : List SegId) (i : ℕ) → 0 < length (stops_from i f round) → 0 < length (stops_from i h round)
   no_fewer [] i some = some
-  no_fewer (x ∷ xs) i some = by_ports (f x) (h x) (same x) some
+  no_fewer (x ∷ xs) i some = by_ports (λ more. no_fewer xs (i + 1) more) (f x) (h x) (same x) some
     where
-      by_ports : (o p : Option Dir) → IsSameOrNone o p → 0 < length (with_stop i o (stops_from (i + 1) f xs)) → 0 < length (with_stop i p (stops_from (i + 1) h xs))
-      by_ports None None e some = no_fewer xs (i + 1) some
-      by_ports None (Some g) e some = omega arith
-      by_ports (Some d) None (inl e) some = cc
-      by_ports (Some d) None (inr e) some = cc
-      by_ports (Some d) (Some g) e some = omega arith
+      by_ports : (0 < length (stops_from (i + 1) f xs) → 0 < length (stops_from (i + 1) h xs)) → (o p : Option Dir) → IsSameOrNone o p → 0 < length (with_stop i o (stops_from (i + 1) f xs)) → 0 < length (with_stop i p (stops_from (i + 1) h xs))
+      by_ports rest None None e some = rest some
+      by_ports rest None (Some g) e some = omega arith
+      by_ports rest (Some d) None (inl e) some = cc
+      by_ports rest (Some d) None (inr e) some = cc
+      by_ports rest (Some d) (Some g) e some = omega arith
 
   -- all round
   fewer : (round : List SegId) (i : ℕ) → i + length round ≤ count → 0 < length (stops_from i f round) → turned_over (gaps_of count (stops_from i h round)) ≡ 8 → has_room (gaps_of count (stops_from i h round)) ≡ true
       → (has_room (gaps_of count (stops_from i f round)) ≡ true) × (turned_over (gaps_of count (stops_from i f round)) ≡ 8)
   fewer [] i within some round_is room = absurd (omega (arith, some))
-  fewer (x ∷ xs) i within some round_is room = by_ports (f x) (h x) (same x) some round_is room
+  fewer (x ∷ xs) i within some round_is room = by_ports (λ more is_round has. fewer xs (i + 1) (omega (arith, within)) more is_round has) (f x) (h x) (same x) some round_is room
     where
       -- the first one is left out
       without_first : (g : Dir) (ss : List Stop) → AreFrom (i + 1) count ss → turned_over (gaps_of count ((i, g) ∷ ss)) ≡ 8 → has_room (gaps_of count ((i, g) ∷ ss)) ≡ true → 0 < length ss → (has_room (gaps_of count ss) ≡ true) × (turned_over (gaps_of count ss) ≡ 8)
@@ -133,19 +137,23 @@ module _ (f h : SegId → Option Dir) (same : (s : SegId) → IsSameOrNone (f s)
           let later = begun_later count (i, g) t t ts (omega (arith, places.0)) places.1 places.2 parts.0 (omega (arith, is)) parts.1 in
           (later.0, omega (arith, later.1, is))
 
-      by_ports : (o p : Option Dir) → IsSameOrNone o p → 0 < length (with_stop i o (stops_from (i + 1) f xs)) → turned_over (gaps_of count (with_stop i p (stops_from (i + 1) h xs))) ≡ 8 → has_room (gaps_of count (with_stop i p (stops_from (i + 1) h xs))) ≡ true
+      Rest : Type 0
+      Rest = 0 < length (stops_from (i + 1) f xs) → turned_over (gaps_of count (stops_from (i + 1) h xs)) ≡ 8 → has_room (gaps_of count (stops_from (i + 1) h xs)) ≡ true
+          → (has_room (gaps_of count (stops_from (i + 1) f xs)) ≡ true) × (turned_over (gaps_of count (stops_from (i + 1) f xs)) ≡ 8)
+
+      by_ports : Rest → (o p : Option Dir) → IsSameOrNone o p → 0 < length (with_stop i o (stops_from (i + 1) f xs)) → turned_over (gaps_of count (with_stop i p (stops_from (i + 1) h xs))) ≡ 8 → has_room (gaps_of count (with_stop i p (stops_from (i + 1) h xs))) ≡ true
           → (has_room (gaps_of count (with_stop i o (stops_from (i + 1) f xs))) ≡ true) × (turned_over (gaps_of count (with_stop i o (stops_from (i + 1) f xs))) ≡ 8)
-      by_ports None None e some is room = fewer xs (i + 1) (omega (arith, within)) some is room
-      by_ports (Some d) None (inl e) some is room = cc
-      by_ports (Some d) None (inr e) some is room = cc
-      by_ports None (Some g) e some is room =
+      by_ports rest None None e some is room = rest some is room
+      by_ports rest (Some d) None (inl e) some is room = cc
+      by_ports rest (Some d) None (inr e) some is room = cc
+      by_ports rest None (Some g) e some is room =
           let later = without_first g (stops_from (i + 1) h xs) (stops_places h xs (i + 1) count (omega (arith, within))) is room (no_fewer xs (i + 1) some) in
-          fewer xs (i + 1) (omega (arith, within)) some later.1 later.0
-      by_ports (Some d) (Some g) (inl e) some is room = cc
-      by_ports (Some d) (Some g) (inr e) some is room =
+          rest some later.1 later.0
+      by_ports rest (Some d) (Some g) (inl e) some is room = cc
+      by_ports rest (Some d) (Some g) (inr e) some is room =
           let one : d ≡ g = cc in
-          let rest = fewer_behind xs (i + 1) (i, g) (i, g) (omega arith) (omega (arith, within)) (omega (arith, is)) room in
-          subst (λ (a : Dir). (has_room (gaps_of count ((i, a) ∷ stops_from (i + 1) f xs)) ≡ true) × (turned_over (gaps_of count ((i, a) ∷ stops_from (i + 1) f xs)) ≡ 8)) (sym one) (rest.0, rest.1 ∙ is)
+          let behind = fewer_behind xs (i + 1) (i, g) (i, g) (omega arith) (omega (arith, within)) (omega (arith, is)) room in
+          subst (λ (a : Dir). (has_room (gaps_of count ((i, a) ∷ stops_from (i + 1) f xs)) ≡ true) × (turned_over (gaps_of count ((i, a) ∷ stops_from (i + 1) f xs)) ≡ 8)) (sym one) (behind.0, behind.1 ∙ is)
 
 -- a port that is allowed beside some others is so beside fewer of them
 pub allowed_fewer : (f h : SegId → Option Dir) (round : List SegId) (s : SegId) (d : Dir) → ((t : SegId) → IsSameOrNone (f t) (h t)) → 0 < length (stops_from 0 (with_port s d f) round) → is_allowed round h s d ≡ true → is_allowed round f s d ≡ true

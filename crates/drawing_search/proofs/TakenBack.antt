@@ -15,7 +15,7 @@ use Rattle.run_laying.specs.Runs.{AreBeside, IsRun, MeetAlone}
 use Rattle.run_laying.specs.Sketches.{is_standing, lifted, walk_in, with_walk_of, IsEndOf, IsLegalSketch}
 use Rattle.run_laying.proofs.Attempted.{beside_off}
 use Rattle.run_laying.proofs.RunFacts.{inner_of, inner_off, step_of, IsInner, IsOff}
-use Rattle.drawing_search.specs.Changes.{without_run, without_walks, AreLiftable, AreTakable}
+use Rattle.drawing_search.specs.Changes.{without_run, without_walks, AreLiftable, AreTakable, IsTakable}
 use Rattle.drawing_search.proofs.Takable.{legal_without, none_left, run_takable, same_stand, same_walks_off, still_none}
 use Rattle.drawing_search.proofs.TakenOff.{lifted_legal}
 
@@ -108,6 +108,7 @@ takable_each graph fit [] k h runs beside stand = tt
 takable_each graph fit (c ∷ cs) k h runs beside stand =
     (here, takable_each graph fit cs (without_run k c) (lift_legal graph (without_walks k c.steps) (inner_nodes c.steps) (legal_without graph fit k h c.steps) here.inner) (λ d i. runs d (inr i)) beside.1 still)
   where
+    here : IsTakable graph k c
     here = run_takable graph fit k c h (runs c (inl refl)) (stand c (inl refl))
 
     still : (d : Chain) → In d cs → (m : NodeId) → In m (inner_nodes d.steps) → is_standing (without_run k c) m.0 ≡ true

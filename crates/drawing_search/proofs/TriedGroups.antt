@@ -42,22 +42,22 @@ one_of_eight nodes runs count rest d (suc (suc (suc (suc (suc (suc (suc (suc i))
 
 vector_at : (nodes : List NodeId) (runs : List Chain) (d : Attempt) (lo n i : ℕ) → i < 8 * n → get_or (flat_map (λ k. attempts_of_length nodes runs (2 * (k + 1))) (range_with_len lo n)) i d ≡ by_vector nodes runs lo i
 vector_at nodes runs d lo zero i h = absurd (omega (arith, h))
-vector_at nodes runs d lo (suc n) i h = by_order (cases_lt i 8)
+vector_at nodes runs d lo (suc n) i h = by_order (λ less. vector_at nodes runs d (lo + 1) n (i - 8) less) (cases_lt i 8)
   where
     rest : List Attempt
     rest = flat_map (λ k. attempts_of_length nodes runs (2 * (k + 1))) (range_with_len (lo + 1) n)
 
-    by_order : (i < 8) ⊎ (8 ≤ i) → get_or (attempts_of_length nodes runs (2 * (lo + 1)) ++ rest) i d ≡ by_vector nodes runs lo i
-    by_order (inl less) =
+    by_order : (i - 8 < 8 * n → get_or rest (i - 8) d ≡ by_vector nodes runs (lo + 1) (i - 8)) → (i < 8) ⊎ (8 ≤ i) → get_or (attempts_of_length nodes runs (2 * (lo + 1)) ++ rest) i d ≡ by_vector nodes runs lo i
+    by_order next (inl less) =
         let same : i ≡ i % 8 = omega (arith, less) in
         let far : 2 * (lo + 1) ≡ 2 * (lo + i / 8 + 1) = omega (arith, less) in
         one_of_eight nodes runs (2 * (lo + 1)) rest d i less ∙ ap₂ (λ m c. (let a : Attempt = record { nodes = nodes; dir = direction m; count = c; runs = runs } in a)) same far
-    by_order (inr more) =
+    by_order next (inr more) =
         let shift : i ≡ suc (suc (suc (suc (suc (suc (suc (suc (i - 8)))))))) = omega (arith, more) in
         let same : (i - 8) % 8 ≡ i % 8 = omega (arith, more) in
         let far : 2 * (lo + 1 + (i - 8) / 8 + 1) ≡ 2 * (lo + i / 8 + 1) = omega (arith, more) in
         ap (λ m. get_or (attempts_of_length nodes runs (2 * (lo + 1)) ++ rest) m d) shift
-        ∙ vector_at nodes runs d (lo + 1) n (i - 8) (omega (arith, h, more))
+        ∙ next (omega (arith, h, more))
         ∙ ap₂ (λ m c. (let a : Attempt = record { nodes = nodes; dir = direction m; count = c; runs = runs } in a)) same far
 
 vectors_many : (nodes : List NodeId) (runs : List Chain) (lo n : ℕ) → length (flat_map (λ k. attempts_of_length nodes runs (2 * (k + 1))) (range_with_len lo n)) ≡ 8 * n
@@ -150,7 +150,7 @@ module _ (scale : Scale) (graph : GraphParts) (first : List GridPoint) where
     pub few : made ≤ most
 
   module _ (g : Group) (most : ℕ) (start : Tried) (i : ℕ) (k : Sketch) (weight made : ℕ) (l : Lifted) (t : IsTrying g most start i k weight made l) where
-    now : Tried
+    abbrev now : Tried
     now = record { sketch = t.whole; made = made }
 
     pub all_full : made ≡ most → now ≡ after_tries scale graph first most (attempts_in g) start
