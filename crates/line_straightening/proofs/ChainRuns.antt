@@ -48,26 +48,26 @@ record IsBy (graph : GraphParts) (corners : List Bool) (n : NodeId) (ss : List S
 
 from_by : (graph : GraphParts) (corners : List Bool) (n : NodeId) (ss : List SegId) (c : Chain) → In c (chains_by graph corners n ss) → IsBy graph corners n ss c
 from_by graph corners n [] c i = absurd i
-from_by graph corners n (s ∷ ss) c i = by_test (is_forward graph s (way_from graph corners n s)) refl i
+from_by graph corners n (s ∷ ss) c i = by_test (is_forward graph s (way_from graph corners n s)) refl i (from_by graph corners n ss c)
   where
-    later : In c (chains_by graph corners n ss) → IsBy graph corners n (s ∷ ss) c
-    later j = let rest = from_by graph corners n ss c j in record { seg = rest.seg; on = inr rest.on; is = rest.is; forward = rest.forward }
+    later : IsBy graph corners n ss c → IsBy graph corners n (s ∷ ss) c
+    later rest = record { seg = rest.seg; on = inr rest.on; is = rest.is; forward = rest.forward }
 
-    by_test : (b : Bool) → is_forward graph s (way_from graph corners n s) ≡ b → In c (cond b (way_from graph corners n s ∷ chains_by graph corners n ss) (chains_by graph corners n ss)) → IsBy graph corners n (s ∷ ss) c
-    by_test false e j = later j
-    by_test true e (inl same) = record { seg = s; on = inl refl; is = same; forward = ap (is_forward graph s) same ∙ e }
-    by_test true e (inr j) = later j
+    by_test : (b : Bool) → is_forward graph s (way_from graph corners n s) ≡ b → In c (cond b (way_from graph corners n s ∷ chains_by graph corners n ss) (chains_by graph corners n ss)) → (In c (chains_by graph corners n ss) → IsBy graph corners n ss c) → IsBy graph corners n (s ∷ ss) c
+    by_test false e j before = later (before j)
+    by_test true e (inl same) before = record { seg = s; on = inl refl; is = same; forward = ap (is_forward graph s) same ∙ e }
+    by_test true e (inr j) before = later (before j)
 
 in_by : (graph : GraphParts) (corners : List Bool) (n : NodeId) (ss : List SegId) (s : SegId) → In s ss → is_forward graph s (way_from graph corners n s) ≡ true → In (way_from graph corners n s) (chains_by graph corners n ss)
 in_by graph corners n [] s i e = absurd i
 in_by graph corners n (t ∷ ss) s (inl same) e =
     subst (λ (x : SegId). In (way_from graph corners n s) (cond (is_forward graph x (way_from graph corners n x)) (way_from graph corners n x ∷ chains_by graph corners n ss) (chains_by graph corners n ss))) same
     (subst (λ b. In (way_from graph corners n s) (cond b (way_from graph corners n s ∷ chains_by graph corners n ss) (chains_by graph corners n ss))) (sym e) (inl refl))
-in_by graph corners n (t ∷ ss) s (inr i) e = by_test (is_forward graph t (way_from graph corners n t))
+in_by graph corners n (t ∷ ss) s (inr i) e = by_test (is_forward graph t (way_from graph corners n t)) (in_by graph corners n ss s i e)
   where
-    by_test : (b : Bool) → In (way_from graph corners n s) (cond b (way_from graph corners n t ∷ chains_by graph corners n ss) (chains_by graph corners n ss))
-    by_test true = inr (in_by graph corners n ss s i e)
-    by_test false = in_by graph corners n ss s i e
+    by_test : (b : Bool) → In (way_from graph corners n s) (chains_by graph corners n ss) → In (way_from graph corners n s) (cond b (way_from graph corners n t ∷ chains_by graph corners n ss) (chains_by graph corners n ss))
+    by_test true j = inr j
+    by_test false j = j
 
 from_range : (a k : ℕ) (m : NodeId) → In m (map (λ n. (let x : NodeId = record { 0 = n } in x)) (range_with_len a k)) → (a ≤ m.0) × (m.0 < a + k)
 from_range a zero m i = absurd i
@@ -76,11 +76,11 @@ from_range a (suc k) m (inr i) = let rest = from_range (a + 1) k m i in (omega (
 
 in_nodes : (a k : ℕ) (m : NodeId) → a ≤ m.0 → m.0 < a + k → In m (map (λ n. (let x : NodeId = record { 0 = n } in x)) (range_with_len a k))
 in_nodes a zero m low high = absurd (omega (arith, low, high))
-in_nodes a (suc k) m low high = by_first (cases_eq m.0 a)
+in_nodes a (suc k) m low high = by_first (cases_eq m.0 a) (λ below. in_nodes (a + 1) k m below (omega (arith, high)))
   where
-    by_first : (m.0 ≡ a) ⊎ (m.0 ≡ a → ⊥) → In m (map (λ n. (let x : NodeId = record { 0 = n } in x)) (range_with_len a (suc k)))
-    by_first (inl e) = inl (ap (λ n. (let x : NodeId = record { 0 = n } in x)) e)
-    by_first (inr other) = inr (in_nodes (a + 1) k m (grind (arith, low, other)) (omega (arith, high)))
+    by_first : (m.0 ≡ a) ⊎ (m.0 ≡ a → ⊥) → (a + 1 ≤ m.0 → In m (map (λ n. (let x : NodeId = record { 0 = n } in x)) (range_with_len (a + 1) k))) → In m (map (λ n. (let x : NodeId = record { 0 = n } in x)) (range_with_len a (suc k)))
+    by_first (inl e) later = inl (ap (λ n. (let x : NodeId = record { 0 = n } in x)) e)
+    by_first (inr other) later = inr (later (grind (arith, low, other)))
 
 from_at : (graph : GraphParts) (corners : List Bool) (n : NodeId) (c : Chain) → In c (chains_at graph corners n) → (is_corner corners n ≡ true) × IsBy graph corners n (round_of graph n) c
 from_at graph corners n c i = by_test (is_corner corners n) refl i
@@ -133,21 +133,22 @@ module _ (graph : GraphParts) (fit : IsConsistent graph) (corners : List Bool) (
   before_once [] a b e f = true≢false (sym e)
   before_once (x ∷ r) a b e f =
       by_cases (or_cases (eqb x.0 a.0 && not (eqb a.0 b.0)) (not (eqb x.0 b.0) && stands_before r a b) e) (or_cases (eqb x.0 b.0 && not (eqb b.0 a.0)) (not (eqb x.0 a.0) && stands_before r b a) f)
+      (before_once r a b)
     where
-      by_cases : ((eqb x.0 a.0 && not (eqb a.0 b.0)) ≡ true) ⊎ ((not (eqb x.0 b.0) && stands_before r a b) ≡ true) → ((eqb x.0 b.0 && not (eqb b.0 a.0)) ≡ true) ⊎ ((not (eqb x.0 a.0) && stands_before r b a) ≡ true) → ⊥
-      by_cases (inl g) (inl h) =
+      by_cases : ((eqb x.0 a.0 && not (eqb a.0 b.0)) ≡ true) ⊎ ((not (eqb x.0 b.0) && stands_before r a b) ≡ true) → ((eqb x.0 b.0 && not (eqb b.0 a.0)) ≡ true) ⊎ ((not (eqb x.0 a.0) && stands_before r b a) ≡ true) → (stands_before r a b ≡ true → stands_before r b a ≡ true → ⊥) → ⊥
+      by_cases (inl g) (inl h) later =
           let one = and_parts (eqb x.0 a.0) (not (eqb a.0 b.0)) g in
           let two = and_parts (eqb x.0 b.0) (not (eqb b.0 a.0)) h in
           true≢false (sym (eq-eqb a.0 b.0 (sym (eqb-true x.0 a.0 one.0) ∙ eqb-true x.0 b.0 two.0)) ∙ not-true (eqb a.0 b.0) one.1)
-      by_cases (inl g) (inr h) =
+      by_cases (inl g) (inr h) later =
           let one = and_parts (eqb x.0 a.0) (not (eqb a.0 b.0)) g in
           let two = and_parts (not (eqb x.0 a.0)) (stands_before r b a) h in
           true≢false (sym one.0 ∙ not-true (eqb x.0 a.0) two.0)
-      by_cases (inr g) (inl h) =
+      by_cases (inr g) (inl h) later =
           let one = and_parts (not (eqb x.0 b.0)) (stands_before r a b) g in
           let two = and_parts (eqb x.0 b.0) (not (eqb b.0 a.0)) h in
           true≢false (sym two.0 ∙ not-true (eqb x.0 b.0) one.0)
-      by_cases (inr g) (inr h) = before_once r a b (and_parts (not (eqb x.0 b.0)) (stands_before r a b) g).1 (and_parts (not (eqb x.0 a.0)) (stands_before r b a) h).1
+      by_cases (inr g) (inr h) later = later (and_parts (not (eqb x.0 b.0)) (stands_before r a b) g).1 (and_parts (not (eqb x.0 a.0)) (stands_before r b a) h).1
 
   -- a chain and the same from its end are not both walked forward
   not_both : (c d : Chain) (h : IsChain graph corners c) (k : IsChain graph corners d) → c.from ≡ end_of d → d.from ≡ end_of c → h.seg ≡ last_seg k.seg d.steps → k.seg ≡ last_seg h.seg c.steps → ⊥
@@ -253,17 +254,14 @@ module _ (graph : GraphParts) (fit : IsConsistent graph) (corners : List Bool) (
 
   by_beside : (n : NodeId) → n.0 < length graph.kinds → is_corner corners n ≡ true → (ss : List SegId) → AreSegsOnce ss → ((s : SegId) → In s ss → In s (round_of graph n)) → AreBeside (chains_by graph corners n ss)
   by_beside n node corner [] once all = tt
-  by_beside n node corner (s ∷ ss) once all = by_test (is_forward graph s (way_from graph corners n s)) refl
+  by_beside n node corner (s ∷ ss) once all = by_test (is_forward graph s (way_from graph corners n s)) refl (by_beside n node corner ss once.1 (λ t i. all t (inr i)))
     where
-      rest : AreBeside (chains_by graph corners n ss)
-      rest = by_beside n node corner ss once.1 (λ t i. all t (inr i))
-
       first : is_forward graph s (way_from graph corners n s) ≡ true → IsChain graph corners (way_from graph corners n s)
       first e = record { node = node; corner = corner; seg = s; on = all s (inl refl); is = refl; forward = e }
 
-      by_test : (b : Bool) → is_forward graph s (way_from graph corners n s) ≡ b → AreBeside (cond b (way_from graph corners n s ∷ chains_by graph corners n ss) (chains_by graph corners n ss))
-      by_test false e = rest
-      by_test true e = (beside_from (way_from graph corners n s) (chains_by graph corners n ss) (λ d i q p on_c on_d same. each d (by_chain n node corner ss (λ t j. all t (inr j)) d i) q p on_c on_d same), rest)
+      by_test : (b : Bool) → is_forward graph s (way_from graph corners n s) ≡ b → AreBeside (chains_by graph corners n ss) → AreBeside (cond b (way_from graph corners n s ∷ chains_by graph corners n ss) (chains_by graph corners n ss))
+      by_test false e rest = rest
+      by_test true e rest = (beside_from (way_from graph corners n s) (chains_by graph corners n ss) (λ d i q p on_c on_d same. each d (by_chain n node corner ss (λ t j. all t (inr j)) d i) q p on_c on_d same), rest)
         where
           each : (d : Chain) → (t : SegId) × In t ss × ((h : IsChain graph corners d) × (h.seg ≡ t) × (d.from ≡ n)) → (q p : ChainStep) → In q (way_from graph corners n s).steps → In p d.steps → q.seg ≡ p.seg → ⊥
           each d (t, i, (h, is, from)) q p on_c on_d same = once.0 t i (ap (λ (x : SegId). x.0) (sym is ∙ sym (share_same (way_from graph corners n s) d (first e) h q p on_c on_d same).1))
@@ -303,13 +301,13 @@ module _ (graph : GraphParts) (fit : IsConsistent graph) (corners : List Bool) (
 -- ---- different ends
 
 module _ (graph : GraphParts) (fit : IsConsistent graph) (cell : ℕ) where
-  few : List Bool
+  abbrev few : List Bool
   few = ring_corners graph
 
-  more : List Bool
+  abbrev more : List Bool
   more = corners_of graph cell
 
-  bends : List NodeId
+  abbrev bends : List NodeId
   bends = flat_map (chain_bends graph cell) (chains_of graph few)
 
   pub corners_more : HasMoreCorners (ring_corners graph) (corners_of graph cell)
@@ -332,7 +330,7 @@ module _ (graph : GraphParts) (fit : IsConsistent graph) (cell : ℕ) where
   -- a way to one of the fewer corners is the same between them
   same_way : (k : ℕ) (x : NodeId) (s : SegId) → is_corner few (end_after x (steps_from graph more k x s)) ≡ true → steps_from graph few k x s ≡ steps_from graph more k x s
   same_way zero x s e = refl
-  same_way (suc k) x s e = by_corner (is_corner more z) refl e
+  same_way (suc k) x s e = by_corner (is_corner more z) refl e (same_way k z (other_of (round_of graph z) s))
     where
       z : NodeId
       z = far_end graph s x
@@ -340,12 +338,12 @@ module _ (graph : GraphParts) (fit : IsConsistent graph) (cell : ℕ) where
       rest : List Bool → List ChainStep
       rest corners = steps_from graph corners k z (other_of (round_of graph z) s)
 
-      by_corner : (b : Bool) → is_corner more z ≡ b → is_corner few (end_after x (record { seg = s; to = z } ∷ unless_ended b (rest more))) ≡ true
+      by_corner : (b : Bool) → is_corner more z ≡ b → is_corner few (end_after x (record { seg = s; to = z } ∷ unless_ended b (rest more))) ≡ true → (is_corner few (end_after z (rest more)) ≡ true → rest few ≡ rest more)
           → record { seg = s; to = z } ∷ unless_ended (is_corner few z) (rest few) ≡ record { seg = s; to = z } ∷ unless_ended b (rest more)
-      by_corner true f g = ap (λ b. (let t : ChainStep = record { seg = s; to = z } in t) ∷ unless_ended b (rest few)) g
-      by_corner false f g =
+      by_corner true f g later = ap (λ b. (let t : ChainStep = record { seg = s; to = z } in t) ∷ unless_ended b (rest few)) g
+      by_corner false f g later =
           ap (λ b. (let t : ChainStep = record { seg = s; to = z } in t) ∷ unless_ended b (rest few)) (not_few z f)
-          ∙ ap (λ (ts : List ChainStep). (let t : ChainStep = record { seg = s; to = z } in t) ∷ ts) (same_way k z (other_of (round_of graph z) s) g)
+          ∙ ap (λ (ts : List ChainStep). (let t : ChainStep = record { seg = s; to = z } in t) ∷ ts) (later g)
 
   pub chain_apart : (c : Chain) → IsChain graph (corners_of graph cell) c → c.from.0 ≡ (end_of c).0 → ⊥
   chain_apart c h ring = by_flag (is_corner few c.from) refl

@@ -87,11 +87,11 @@ ring_has graph fit n node e = eqb-true (length (round_of graph n)) 2 (not-false 
 greatest_in : (ks : List ℕ) → 0 < length ks → In (greatest ks) ks
 greatest_in [] some = absurd (omega (arith, some))
 greatest_in (k ∷ []) some = inl (omega arith)
-greatest_in (k ∷ j ∷ js) some = by_order (cases_lt k (greatest (j ∷ js)))
+greatest_in (k ∷ j ∷ js) some = by_order (cases_lt k (greatest (j ∷ js))) (greatest_in (j ∷ js) (omega arith))
   where
-    by_order : (k < greatest (j ∷ js)) ⊎ (greatest (j ∷ js) ≤ k) → In (max k (greatest (j ∷ js))) (k ∷ j ∷ js)
-    by_order (inl less) = let is : max k (greatest (j ∷ js)) ≡ greatest (j ∷ js) = omega (arith, less) in inr (subst (λ m. In m (j ∷ js)) (sym is) (greatest_in (j ∷ js) (omega arith)))
-    by_order (inr more) = inl (omega (arith, more))
+    by_order : (k < greatest (j ∷ js)) ⊎ (greatest (j ∷ js) ≤ k) → In (greatest (j ∷ js)) (j ∷ js) → In (max k (greatest (j ∷ js))) (k ∷ j ∷ js)
+    by_order (inl less) later = let is : max k (greatest (j ∷ js)) ≡ greatest (j ∷ js) = omega (arith, less) in inr (subst (λ m. In m (j ∷ js)) (sym is) later)
+    by_order (inr more) later = inl (omega (arith, more))
 
 first_below : (k : ℕ) (ks : List ℕ) → In k ks → first_place k ks < length ks
 first_below k [] i = absurd i
@@ -126,7 +126,7 @@ pub record IsBendAt (nodes : List NodeId) (m : NodeId) : Type 0 where
 
 pub bend_at : (most : ℕ) (graph : GraphParts) (cell : ℕ) (nodes : List NodeId) (m : NodeId) → In m (bends_of most graph cell nodes) → IsBendAt nodes m
 bend_at zero graph cell nodes m i = absurd i
-bend_at (suc most) graph cell nodes m i = by_test (is_bent graph cell nodes) refl i
+bend_at (suc most) graph cell nodes m i = by_test (is_bent graph cell nodes) refl i (bend_at most graph cell (take (bend_place graph nodes + 1) nodes) m) (bend_at most graph cell (drop (bend_place graph nodes) nodes) m)
   where
     k : ℕ
     k = bend_place graph nodes
@@ -137,21 +137,21 @@ bend_at (suc most) graph cell nodes m i = by_test (is_bent graph cell nodes) ref
     rear : List NodeId
     rear = drop k nodes
 
-    by_test : (b : Bool) → is_bent graph cell nodes ≡ b → In m (cond b (node_at nodes k ∷ (bends_of most graph cell front ++ bends_of most graph cell rear)) []) → IsBendAt nodes m
-    by_test false e j = absurd j
-    by_test true e (inl same) = record { place = k; after = omega arith; before = place_inside graph nodes long; there = sym same }
+    by_test : (b : Bool) → is_bent graph cell nodes ≡ b → In m (cond b (node_at nodes k ∷ (bends_of most graph cell front ++ bends_of most graph cell rear)) []) → (In m (bends_of most graph cell front) → IsBendAt front m) → (In m (bends_of most graph cell rear) → IsBendAt rear m) → IsBendAt nodes m
+    by_test false e j in_front in_rear = absurd j
+    by_test true e (inl same) in_front in_rear = record { place = k; after = omega arith; before = place_inside graph nodes long; there = sym same }
       where
         long : 2 < length nodes
         long = ltb-true 2 (length nodes) (and_parts (nat_lt 2 (length nodes)) ((eqb (node_at nodes 0).0 (node_at nodes (last_place nodes)).0) || nat_lt (far_off graph cell nodes) (greatest (offs_of graph nodes))) e).0
-    by_test true e (inr j) = by_part (in_append m (bends_of most graph cell front) (bends_of most graph cell rear) j)
+    by_test true e (inr j) in_front in_rear = by_part (in_append m (bends_of most graph cell front) (bends_of most graph cell rear) j)
       where
         by_part : In m (bends_of most graph cell front) ⊎ In m (bends_of most graph cell rear) → IsBendAt nodes m
         by_part (inl x) =
-            let at = bend_at most graph cell front m x in
+            let at = in_front x in
             let many = length-take (k + 1) nodes in
             record { place = at.place; after = at.after; before = omega (arith, at.before, many); there = sym (get_or-take (k + 1) nodes at.place (record { 0 = 0 }) (omega (arith, at.before, many))) ∙ at.there }
         by_part (inr x) =
-            let at = bend_at most graph cell rear m x in
+            let at = in_rear x in
             let many = length-drop k nodes in
             record { place = k + at.place; after = omega (arith, at.after); before = omega (arith, at.before, many); there = sym (get_or-drop k nodes at.place (record { 0 = 0 })) ∙ at.there }
 

@@ -58,25 +58,25 @@ equal_steps graph corners x (t ∷ v ∷ vs) (u ∷ w ∷ ws) a b i j e f some o
 -- one of two segments of a round stands before the other
 before_total : (r : List SegId) (a b : SegId) → In a r → In b r → (a.0 ≡ b.0 → ⊥) → stands_before r a b ≡ false → stands_before r b a ≡ true
 before_total [] a b i j differ e = absurd i
-before_total (x ∷ r) a b i j differ e = by_first (cases_eq x.0 a.0) (cases_eq x.0 b.0) i j
+before_total (x ∷ r) a b i j differ e = by_first (cases_eq x.0 a.0) (cases_eq x.0 b.0) i j (before_total r a b)
   where
     same : (s t : SegId) → s.0 ≡ t.0 → eqb s.0 t.0 ≡ true
     same s t f = eq-eqb s.0 t.0 f
 
-    by_first : (x.0 ≡ a.0) ⊎ (x.0 ≡ a.0 → ⊥) → (x.0 ≡ b.0) ⊎ (x.0 ≡ b.0 → ⊥) → In a (x ∷ r) → In b (x ∷ r) → stands_before (x ∷ r) b a ≡ true
-    by_first o (inl f) k l =
+    by_first : (x.0 ≡ a.0) ⊎ (x.0 ≡ a.0 → ⊥) → (x.0 ≡ b.0) ⊎ (x.0 ≡ b.0 → ⊥) → In a (x ∷ r) → In b (x ∷ r) → (In a r → In b r → (a.0 ≡ b.0 → ⊥) → stands_before r a b ≡ false → stands_before r b a ≡ true) → stands_before (x ∷ r) b a ≡ true
+    by_first o (inl f) k l before =
         or_left (eqb x.0 b.0 && not (eqb b.0 a.0)) (not (eqb x.0 a.0) && stands_before r b a)
         (ap₂ (λ p q. p && not q) (eq-eqb x.0 b.0 f) (ne_eqb b.0 a.0 (λ g. differ (sym g))))
-    by_first (inl f) (inr g) k l =
+    by_first (inl f) (inr g) k l before =
         absurd (true≢false
         (sym (or_left (eqb x.0 a.0 && not (eqb a.0 b.0)) (not (eqb x.0 b.0) && stands_before r a b) (ap₂ (λ p q. p && not q) (eq-eqb x.0 a.0 f) (ne_eqb a.0 b.0 differ))) ∙ e))
-    by_first (inr f) (inr g) (inl k) l = absurd (f (ap (λ (s : SegId). s.0) (sym k)))
-    by_first (inr f) (inr g) (inr k) (inl l) = absurd (g (ap (λ (s : SegId). s.0) (sym l)))
-    by_first (inr f) (inr g) (inr k) (inr l) =
+    by_first (inr f) (inr g) (inl k) l before = absurd (f (ap (λ (s : SegId). s.0) (sym k)))
+    by_first (inr f) (inr g) (inr k) (inl l) before = absurd (g (ap (λ (s : SegId). s.0) (sym l)))
+    by_first (inr f) (inr g) (inr k) (inr l) before =
         let rest = (or_parts (eqb x.0 a.0 && not (eqb a.0 b.0)) (not (eqb x.0 b.0) && stands_before r a b) e).1 in
         let later : stands_before r a b ≡ false = sym (ap (λ p. not p && stands_before r a b) (ne_eqb x.0 b.0 g)) ∙ rest in
         or_right (eqb x.0 b.0 && not (eqb b.0 a.0)) (not (eqb x.0 a.0) && stands_before r b a)
-        (ap₂ (λ p q. not p && q) (ne_eqb x.0 a.0 f) (before_total r a b k l differ later))
+        (ap₂ (λ p q. not p && q) (ne_eqb x.0 a.0 f) (before k l differ later))
 
 -- ---- runs that serve a node
 
@@ -124,6 +124,8 @@ module _ (graph : GraphParts) (fit : IsConsistent graph) (corners : List Bool) (
       last_any : (t : SegId) (ts : List ChainStep) → 0 < length ts → last_seg (first_seg_of ts) ts ≡ last_seg t ts
       last_any t [] some = absurd (omega (arith, some))
       last_any t (u ∷ us) some = refl
+
+      at_end : (last.0 < length graph.ends) × IsEndOf graph last e.0
       at_end = last_end graph s n c.steps w.steps w.some
 
       e_node : e.0 < length graph.kinds
@@ -166,6 +168,7 @@ module _ (graph : GraphParts) (fit : IsConsistent graph) (corners : List Bool) (
           let r = to_back graph n c.steps w.steps q.0 q.1 in
           (d, chain_in graph corners d (record { node = e_node; corner = w.end; seg = last; on = last_on; is = refl; forward = forward }), inr d_end, (r.0, subst (In r.0) (sym same) r.1, r.2 ∙ q.2 ∙ first))
         where
+          parts : (nat_lt n.0 e.0 ≡ false) × ((eqb n.0 e.0 && stands_before (round_of graph n) s last) ≡ false)
           parts = or_parts (nat_lt n.0 e.0) (eqb n.0 e.0 && stands_before (round_of graph n) s last) f
 
           by_order : (e.0 ≡ n.0) ⊎ (e.0 ≡ n.0 → ⊥) → is_forward graph last d ≡ true
@@ -227,27 +230,27 @@ node_served graph fit n node = record {
 to_filter : {X : Type 0} (test : X → Bool) (xs : List X) (x : X) → In x xs → test x ≡ true → In x (filter test xs)
 to_filter test [] x i e = absurd i
 to_filter test (y ∷ ys) x (inl same) e = subst (λ b. In x (cond b (y ∷ filter test ys) (filter test ys))) (sym (ap test (sym same) ∙ e)) (inl same)
-to_filter test (y ∷ ys) x (inr i) e = by_test (test y)
+to_filter test (y ∷ ys) x (inr i) e = by_test (test y) (to_filter test ys x i e)
   where
-    by_test : (b : Bool) → In x (cond b (y ∷ filter test ys) (filter test ys))
-    by_test true = inr (to_filter test ys x i e)
-    by_test false = to_filter test ys x i e
+    by_test : (b : Bool) → In x (filter test ys) → In x (cond b (y ∷ filter test ys) (filter test ys))
+    by_test true j = inr j
+    by_test false j = j
 
 from_filter : {X : Type 0} (test : X → Bool) (xs : List X) (x : X) → In x (filter test xs) → In x xs
 from_filter test [] x i = absurd i
-from_filter test (y ∷ ys) x i = by_test (test y) i
+from_filter test (y ∷ ys) x i = by_test (test y) i (from_filter test ys x)
   where
-    by_test : (b : Bool) → In x (cond b (y ∷ filter test ys) (filter test ys)) → In x (y ∷ ys)
-    by_test true (inl e) = inl e
-    by_test true (inr j) = inr (from_filter test ys x j)
-    by_test false j = inr (from_filter test ys x j)
+    by_test : (b : Bool) → In x (cond b (y ∷ filter test ys) (filter test ys)) → (In x (filter test ys) → In x ys) → In x (y ∷ ys)
+    by_test true (inl e) later = inl e
+    by_test true (inr j) later = inr (later j)
+    by_test false j later = inr (later j)
 
 all_of : {X : Type 0} (P : X → Type 0) (xs : List X) → ((x : X) → In x xs → P x) → All P xs
 all_of P xs each = λ k d h. each (get_or xs k d) (in_at xs k d h)
 
 filter_beside : (test : Chain → Bool) (cs : List Chain) → AreBeside cs → AreBeside (filter test cs)
 filter_beside test [] beside = tt
-filter_beside test (c ∷ cs) beside = by_test (test c)
+filter_beside test (c ∷ cs) beside = by_test (test c) (filter_beside test cs beside.1)
   where
     off : IsBeside (filter test cs) c
     off t there = false_from (is_on_runs (filter test cs) t.seg.0) (λ e. by_run (any_at (λ (d : Chain). list_any (λ (u : ChainStep). eqb u.seg.0 t.seg.0) d.steps) (filter test cs) e))
@@ -255,9 +258,9 @@ filter_beside test (c ∷ cs) beside = by_test (test c)
         by_run : (d : Chain) × In d (filter test cs) × (list_any (λ (u : ChainStep). eqb u.seg.0 t.seg.0) d.steps ≡ true) → ⊥
         by_run (d, i, e) = true≢false (sym (any_from (λ (x : Chain). list_any (λ (u : ChainStep). eqb u.seg.0 t.seg.0) x.steps) cs d (from_filter test cs d i) e) ∙ beside.0 t there)
 
-    by_test : (b : Bool) → AreBeside (cond b (c ∷ filter test cs) (filter test cs))
-    by_test true = (off, filter_beside test cs beside.1)
-    by_test false = filter_beside test cs beside.1
+    by_test : (b : Bool) → AreBeside (filter test cs) → AreBeside (cond b (c ∷ filter test cs) (filter test cs))
+    by_test true rest = (off, rest)
+    by_test false rest = rest
 
 module _ (graph : GraphParts) (fit : IsConsistent graph) (runs : List Chain) (run : (c : Chain) → In c runs → IsRun graph c) (beside : AreBeside runs) where
   -- nodes that are served move by an even number of steps
@@ -374,7 +377,7 @@ singles_beside graph a (suc k) = (off, singles_beside graph (a + 1) k)
             first_true false f = f
 
 module _ (graph : GraphParts) (fit : IsConsistent graph) (cell : ℕ) where
-  corners : List Bool
+  abbrev corners : List Bool
   corners = corners_of graph cell
 
   has : HasCorners graph corners
@@ -402,12 +405,12 @@ module _ (graph : GraphParts) (fit : IsConsistent graph) (cell : ℕ) where
 
       passes : (test : NodeId → Bool) (ns : List NodeId) (n : NodeId) → In n (filter test ns) → test n ≡ true
       passes test [] n j = absurd j
-      passes test (m ∷ ns) n j = by_test (test m) refl j
+      passes test (m ∷ ns) n j = by_test (test m) refl j (passes test ns n)
         where
-          by_test : (b : Bool) → test m ≡ b → In n (cond b (m ∷ filter test ns) (filter test ns)) → test n ≡ true
-          by_test true e (inl same) = ap test same ∙ e
-          by_test true e (inr k) = passes test ns n k
-          by_test false e k = passes test ns n k
+          by_test : (b : Bool) → test m ≡ b → In n (cond b (m ∷ filter test ns) (filter test ns)) → (In n (filter test ns) → test n ≡ true) → test n ≡ true
+          by_test true e (inl same) later = ap test same ∙ e
+          by_test true e (inr k) later = later k
+          by_test false e k later = later k
 
       by_rest : In a (moves_over (chains_of graph corners) (filter (is_corner corners) (nodes_of graph))) ⊎ In a (moves_over (single_runs graph) (nodes_of graph)) → IsFitting graph a
       by_rest (inl j) =

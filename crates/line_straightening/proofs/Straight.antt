@@ -59,7 +59,7 @@ module _ (graph : GraphParts) (fit : IsConsistent graph) (few more : List Bool) 
   follows [] x k d steps inner below leads some same q i = absurd i
   follows (t ∷ ts) x k d steps inner below leads some same q (inl e) = (k, omega arith, below, sym same ∙ ap (λ (p : ChainStep). p.seg) (sym e))
   follows (t ∷ []) x k d steps inner below leads some same q (inr i) = absurd i
-  follows (t ∷ u ∷ us) x k d steps inner below leads some same q (inr i) = by_place (cases_lt (k + 1) (length ds))
+  follows (t ∷ u ∷ us) x k d steps inner below leads some same q (inr i) = by_place (cases_lt (k + 1) (length ds)) (λ h on go. follows (u ∷ us) t.to (k + 1) d steps.3 (λ y j. inner y (inr j)) h on (omega arith) go q i)
     where
       to : t.to ≡ (get_or ds k d).to
       to = leads_same graph x t (get_or ds k d) steps.1 leads same
@@ -67,15 +67,16 @@ module _ (graph : GraphParts) (fit : IsConsistent graph) (few more : List Bool) 
       free : is_corner more t.to ≡ false
       free = inner t.to (inl refl)
 
-      by_place : (k + 1 < length ds) ⊎ (length ds ≤ k + 1) → (j : ℕ) × (k ≤ j) × (j < length ds) × ((get_or ds j d).seg ≡ q.seg)
-      by_place (inl h) =
+      by_place : (k + 1 < length ds) ⊎ (length ds ≤ k + 1)
+          → (k + 1 < length ds → LeadsTo graph t.to (get_or ds (k + 1) d) → u.seg ≡ (get_or ds (k + 1) d).seg → (j : ℕ) × (k + 1 ≤ j) × (j < length ds) × ((get_or ds j d).seg ≡ q.seg)) → (j : ℕ) × (k ≤ j) × (j < length ds) × ((get_or ds j d).seg ≡ q.seg)
+      by_place (inl h) later =
           let a = next_at graph m ds w.steps k d h in
           let on : MeetAlone graph u.seg t.to t.seg = alone_turned graph t.to t.seg u.seg steps.2 in
           let one : MeetAlone graph (get_or ds (k + 1) d).seg t.to t.seg =
           subst (λ (s : SegId). MeetAlone graph (get_or ds (k + 1) d).seg t.to s) (sym same) (subst (λ (y : NodeId). MeetAlone graph (get_or ds (k + 1) d).seg y (get_or ds k d).seg) (sym to) (alone_turned graph (get_or ds k d).to (get_or ds k d).seg (get_or ds (k + 1) d).seg a.alone)) in
-          let rest = follows (u ∷ us) t.to (k + 1) d steps.3 (λ y j. inner y (inr j)) h (subst (λ (y : NodeId). LeadsTo graph y (get_or ds (k + 1) d)) (sym to) a.leads) (omega arith) (alone_other graph t.to u.seg (get_or ds (k + 1) d).seg t.seg on one) q i in
+          let rest = later h (subst (λ (y : NodeId). LeadsTo graph y (get_or ds (k + 1) d)) (sym to) a.leads) (alone_other graph t.to u.seg (get_or ds (k + 1) d).seg t.seg on one) in
           (rest.0, omega (arith, rest.1), rest.2, rest.3)
-      by_place (inr past) =
+      by_place (inr past) later =
           let end : is_corner more t.to ≡ true = ap (is_corner more) (to ∙ sym (end_place m ds k d (omega (arith, below, past)))) ∙ has (end_after m ds) w.end in
           absurd (true≢false (sym end ∙ free))
 
@@ -83,10 +84,13 @@ module _ (graph : GraphParts) (fit : IsConsistent graph) (few more : List Bool) 
   never_back : (n : NodeId) (ts : List ChainStep) → IsWay graph more n ts → (i : ℕ) (d : ChainStep) → i + 1 < length ds → n ≡ (get_or ds i d).to → first_seg_of ts ≡ (get_or ds (i + 1) d).seg → n.0 ≡ (end_after n ts).0 → ⊥
   never_back n ts v i d h at same ring = by_end (only_two graph fit (get_or ds i d).seg (get_or ds (i + 1) d).seg n last alone node last_there.0 (subst (IsEndOf graph last) (sym ring) last_there.1))
     where
+      a : AreNext graph ds (get_or ds i d) (get_or ds (i + 1) d)
       a = next_at graph m ds w.steps i d h
 
       last : SegId
       last = last_seg (first_seg_of ts) ts
+
+      last_there : (last.0 < length graph.ends) × IsEndOf graph last (end_after n ts).0
       last_there = last_end graph (first_seg_of ts) n ts v.steps v.some
 
       alone : MeetAlone graph (get_or ds i d).seg n (get_or ds (i + 1) d).seg
@@ -134,6 +138,8 @@ inner_ring graph fit few more has m ds w n ts v on ring = by_place (inner_at ds 
 
         q : ChainStep
         q = get_or ds (i + 1) none
+
+        first_there : ((first_seg_of ts).0 < length graph.ends) × IsEndOf graph (first_seg_of ts) n.0
         first_there = first_end graph n ts v.steps v.some
 
         node : n.0 < length graph.kinds

@@ -59,12 +59,12 @@ back_steps graph n (t ∷ u ∷ us) steps =
 -- a step of the one is one of the other
 pub from_back : (n : NodeId) (ts : List ChainStep) (q : ChainStep) → In q (back n ts) → (p : ChainStep) × In p ts × (p.seg ≡ q.seg)
 from_back n [] q i = absurd i
-from_back n (t ∷ ts) q i = by_place (in_append q (back t.to ts) (record { seg = t.seg; to = n } ∷ []) i)
+from_back n (t ∷ ts) q i = by_place (in_append q (back t.to ts) (record { seg = t.seg; to = n } ∷ []) i) (from_back t.to ts q)
   where
-    by_place : In q (back t.to ts) ⊎ In q (record { seg = t.seg; to = n } ∷ []) → (p : ChainStep) × In p (t ∷ ts) × (p.seg ≡ q.seg)
-    by_place (inl j) = let rest = from_back t.to ts q j in (rest.0, inr rest.1, rest.2)
-    by_place (inr (inl e)) = (t, inl refl, ap (λ (p : ChainStep). p.seg) (sym e))
-    by_place (inr (inr none)) = absurd none
+    by_place : In q (back t.to ts) ⊎ In q (record { seg = t.seg; to = n } ∷ []) → (In q (back t.to ts) → (p : ChainStep) × In p ts × (p.seg ≡ q.seg)) → (p : ChainStep) × In p (t ∷ ts) × (p.seg ≡ q.seg)
+    by_place (inl j) later = let rest = later j in (rest.0, inr rest.1, rest.2)
+    by_place (inr (inl e)) later = (t, inl refl, ap (λ (p : ChainStep). p.seg) (sym e))
+    by_place (inr (inr none)) later = absurd none
 
 first_of_steps : (graph : GraphParts) (n : NodeId) (t : ChainStep) (ts : List ChainStep) → AreSteps graph n (t ∷ ts) → LeadsTo graph n t × AreSteps graph t.to ts
 first_of_steps graph n t [] steps = (steps.1, tt)
@@ -85,11 +85,11 @@ back_once n (t ∷ ts) once =
 pub back_inner : (n : NodeId) (ts : List ChainStep) (m : NodeId) → In m (inner_nodes (back n ts)) → In m (inner_nodes ts)
 back_inner n [] m i = absurd i
 back_inner n (t ∷ []) m i = absurd i
-back_inner n (t ∷ u ∷ us) m i = by_place (inner_push t.to (back t.to (u ∷ us)) (record { seg = t.seg; to = n }) m i)
+back_inner n (t ∷ u ∷ us) m i = by_place (inner_push t.to (back t.to (u ∷ us)) (record { seg = t.seg; to = n }) m i) (back_inner t.to (u ∷ us) m)
   where
-    by_place : In m (inner_nodes (back t.to (u ∷ us))) ⊎ ((0 < length (back t.to (u ∷ us))) × (m ≡ end_after t.to (back t.to (u ∷ us)))) → In m (inner_nodes (t ∷ u ∷ us))
-    by_place (inl j) = inr (back_inner t.to (u ∷ us) m j)
-    by_place (inr (some, e)) = inl (e ∙ back_end t.to t.to u us)
+    by_place : In m (inner_nodes (back t.to (u ∷ us))) ⊎ ((0 < length (back t.to (u ∷ us))) × (m ≡ end_after t.to (back t.to (u ∷ us)))) → (In m (inner_nodes (back t.to (u ∷ us))) → In m (inner_nodes (u ∷ us))) → In m (inner_nodes (t ∷ u ∷ us))
+    by_place (inl j) later = inr (later j)
+    by_place (inr (some, e)) later = inl (e ∙ back_end t.to t.to u us)
 
 pub back_way : (graph : GraphParts) (corners : List Bool) (n : NodeId) (ts : List ChainStep) → IsWay graph corners n ts → IsWay graph corners (end_after n ts) (back n ts)
 back_way graph corners n [] w = absurd (omega (arith, w.some))

@@ -125,7 +125,7 @@ module _ (graph : GraphParts) (fit : IsConsistent graph) (corners : List Bool) (
       → Follows graph ts s → s.0 < length graph.ends → IsEndOf graph s x.0 → IsOff ts s → IsGrown graph corners n (length ts + m) (ts ++ steps_from graph corners m x s)
   grow zero ts x s at steps once inner free follows below here off =
       subst (λ (vs : List ChainStep). IsGrown graph corners n (length ts + 0) vs) (sym (append-nil ts)) (record { steps = steps; once = once; inner = inner; end = inr (omega arith) })
-  grow (suc m) ts x s at steps once inner free follows below here off = by_corner (is_corner corners z) refl
+  grow (suc m) ts x s at steps once inner free follows below here off = by_corner (is_corner corners z) refl (grow m on z (other_of (round_of graph z) s))
     where
       z : NodeId
       z = far_end graph s x
@@ -161,9 +161,12 @@ module _ (graph : GraphParts) (fit : IsConsistent graph) (corners : List Bool) (
       many : length on ≡ length ts + 1
       many = length-append ts (u ∷ [])
 
-      by_corner : (b : Bool) → is_corner corners z ≡ b → IsGrown graph corners n (length ts + suc m) (ts ++ u ∷ unless_ended b (steps_from graph corners m z (other_of (round_of graph z) s)))
-      by_corner true e = record { steps = steps_on; once = once_on; inner = inner_on; end = inl (ap (is_corner corners) at_on ∙ e) }
-      by_corner false e =
+      by_corner : (b : Bool) → is_corner corners z ≡ b
+          → (end_after n on ≡ z → AreSteps graph n on → AreOnce on → ((k : NodeId) → In k (inner_nodes on) → is_corner corners k ≡ false) → (0 < length on → is_corner corners z ≡ false) → Follows graph on (other_of (round_of graph z) s) → (other_of (round_of graph z) s).0 < length graph.ends
+          → IsEndOf graph (other_of (round_of graph z) s) z.0 → IsOff on (other_of (round_of graph z) s) → IsGrown graph corners n (length on + m) (on ++ steps_from graph corners m z (other_of (round_of graph z) s)))
+          → IsGrown graph corners n (length ts + suc m) (ts ++ u ∷ unless_ended b (steps_from graph corners m z (other_of (round_of graph z) s)))
+      by_corner true e later = record { steps = steps_on; once = once_on; inner = inner_on; end = inl (ap (is_corner corners) at_on ∙ e) }
+      by_corner false e later =
           let other = other_there graph fit z s node (in_round graph fit s z.0 below node (leads_to graph x u leads)) (has z node e) in
           let last : last_seg (first_seg_of on) on ≡ s = last_push (first_seg_of on) ts u in
           let differ : n.0 ≡ (end_after n on).0 → ⊥ = λ same. true≢false (sym corner ∙ ap (λ k. get_or corners k false) (same ∙ ap (λ (k : NodeId). k.0) at_on) ∙ e) in
@@ -173,7 +176,7 @@ module _ (graph : GraphParts) (fit : IsConsistent graph) (corners : List Bool) (
           (subst (λ (k : NodeId). k.0 < length graph.kinds) (sym at_on) node) in
           subst (λ (vs : List ChainStep). IsGrown graph corners n (length ts + suc m) vs) (append_assoc ts (u ∷ []) (steps_from graph corners m z (other_of (round_of graph z) s)))
           (subst (λ k. IsGrown graph corners n k (on ++ steps_from graph corners m z (other_of (round_of graph z) s))) (omega (arith, many))
-          (grow m on z (other_of (round_of graph z) s) at_on steps_on once_on inner_on (λ some. e) (follows_push graph ts u (other_of (round_of graph z) s) other.alone) (other_below other) (ends_round graph fit z.0 node (other_of (round_of graph z) s) other.there) off_on))
+          (later at_on steps_on once_on inner_on (λ some. e) (follows_push graph ts u (other_of (round_of graph z) s) other.alone) (other_below other) (ends_round graph fit z.0 node (other_of (round_of graph z) s) other.there) off_on))
         where
           other_below : IsOther graph s z (other_of (round_of graph z) s) → (other_of (round_of graph z) s).0 < length graph.ends
           other_below o = all_in (λ (t : SegId). t.0 < length graph.ends) (round_of graph z) (other_of (round_of graph z) s) (λ k d h. round_below graph fit z.0 node k d h) o.there
@@ -204,6 +207,8 @@ module _ (graph : GraphParts) (fit : IsConsistent graph) (corners : List Bool) (
         where
           last : SegId
           last = last_seg (first_seg_of ts) ts
+
+          at_end : (last.0 < length graph.ends) × IsEndOf graph last z.0
           at_end = last_end graph (first_seg_of ts) n ts g.steps some
 
           node : z.0 < length graph.kinds
