@@ -1,7 +1,7 @@
 -- Nodes that were taken off a whole drawing stand again, moved by a vector: what comes of it is what an attempt lays its runs on.
 use Rattle.std.proofs.Common.{◌≡◌, refl, sym, ◌∙◌, ap, ap₂, subst, ℕ, zero, suc, ◌+◌, ◌*◌, ◌<◌, ◌≤◌, Bool, true, false, not, cond, eqb, ◌&&◌, ◌||◌, List, [], ◌∷◌, length, fold, map, replicate, get_or, set, Option, Some, None, ◌⊎◌, inl, inr, arith, length-set, get_or-set_same, get_or-set_other}
 use Rattle.std.proofs.lemmas.Bool.{and_from, and_parts, cases_eq, cases_lt, eq-eqb, eqb-true, ne_eqb, not-true, true≢false}
-use Rattle.std.proofs.lemmas.List.{get_or_past}
+use Rattle.std.proofs.lemmas.List.{get_or_default, get_or_past}
 use Rattle.std.proofs.lemmas.List.Sums.{sum_by-cons}
 use Rattle.std.proofs.lemmas.List.FromFn.{get_or-map-range_with_len, length-map-range_with_len}
 use Rattle.std.specs.List.{list_all, list_any, range_with_len, sum_by}
@@ -199,6 +199,9 @@ module _ (graph : GraphParts) (fit : IsConsistent graph) (whole old : Sketch) (h
   -- ---- they have room where they may move
 
   module _ (p : GridPoint) where
+    at_default : (n : ℕ) → n < length graph.kinds → get_or begun_on.points n p ≡ point_of_node begun_on n
+    at_default n below = get_or_default begun_on.points n p (record { x = 0; y = 0 }) (omega (arith, below, begun_points))
+
     shown_there : (board_of old).is_node p ≡ true → list_any (stands_at begun_on nodes p) (range_with_len 0 (length begun_on.points)) ≡ true
     shown_there e =
         let at = shown_node old p e in
@@ -206,21 +209,21 @@ module _ (graph : GraphParts) (fit : IsConsistent graph) (whole old : Sketch) (h
         let parts = and_parts (is_standing whole at.node) (not (is_inner runs at.node) && not (has_node nodes at.node)) (sym (old_flag at.node below) ∙ at.stands) in
         let rest = and_parts (not (is_inner runs at.node)) (not (has_node nodes at.node)) parts.1 in
         any_from (stands_at begun_on nodes p) (range_with_len 0 (length begun_on.points)) at.node (in_numbers (length begun_on.points) at.node (omega (arith, below, begun_points)))
-        (and_from (is_standing begun_on at.node) (not (has_node nodes at.node) && are_one (point_of_node begun_on at.node) p) (begun_flag at.node below ∙ and_from (is_standing whole at.node) (not (is_inner runs at.node)) parts.0 rest.0)
-        (and_from (not (has_node nodes at.node)) (are_one (point_of_node begun_on at.node) p) rest.1
-        (are_one_from (point_of_node begun_on at.node) p (stays_there at.node below (not-true (has_node nodes at.node) rest.1) ∙ sym (old_point at.node at.stands) ∙ at.there))))
+        (and_from (is_standing begun_on at.node) (not (has_node nodes at.node) && are_one (get_or begun_on.points at.node p) p) (begun_flag at.node below ∙ and_from (is_standing whole at.node) (not (is_inner runs at.node)) parts.0 rest.0)
+        (and_from (not (has_node nodes at.node)) (are_one (get_or begun_on.points at.node p) p) rest.1
+        (are_one_from (get_or begun_on.points at.node p) p (at_default at.node below ∙ stays_there at.node below (not-true (has_node nodes at.node) rest.1) ∙ sym (old_point at.node at.stands) ∙ at.there))))
 
     there_shown : list_any (stands_at begun_on nodes p) (range_with_len 0 (length begun_on.points)) ≡ true → (board_of old).is_node p ≡ true
     there_shown e =
         let found = any_at (stands_at begun_on nodes p) (range_with_len 0 (length begun_on.points)) e in
         let n = found.0 in
         let below : n < length graph.kinds = omega (arith, in_range 0 (length begun_on.points) n found.1, begun_points) in
-        let parts = and_parts (is_standing begun_on n) (not (has_node nodes n) && are_one (point_of_node begun_on n) p) found.2 in
-        let rest = and_parts (not (has_node nodes n)) (are_one (point_of_node begun_on n) p) parts.1 in
+        let parts = and_parts (is_standing begun_on n) (not (has_node nodes n) && are_one (get_or begun_on.points n p) p) found.2 in
+        let rest = and_parts (not (has_node nodes n)) (are_one (get_or begun_on.points n p) p) parts.1 in
         let flags = and_parts (is_standing whole n) (not (is_inner runs n)) (sym (begun_flag n below) ∙ parts.0) in
         let stands : is_standing old n ≡ true = old_flag n below ∙ and_from (is_standing whole n) (not (is_inner runs n) && not (has_node nodes n)) flags.0 (and_from (not (is_inner runs n)) (not (has_node nodes n)) flags.1 rest.0) in
         any_from (λ (q : GridPoint). are_one q p) (standing_points old) (point_of_node old n) (in_standing old.stand old.points n (old_flags ∙ sym old_points) stands)
-        (are_one_from (point_of_node old n) p (old_point n stands ∙ sym (stays_there n below (not-true (has_node nodes n) rest.0)) ∙ one_point (point_of_node begun_on n) p rest.1))
+        (are_one_from (point_of_node old n) p (old_point n stands ∙ sym (stays_there n below (not-true (has_node nodes n) rest.0)) ∙ sym (at_default n below) ∙ one_point (get_or begun_on.points n p) p rest.1))
 
     pub same_open : is_open old p ≡ may_move_to begun_on nodes p
     same_open =

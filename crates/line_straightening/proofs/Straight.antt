@@ -17,7 +17,7 @@ use Rattle.run_laying.proofs.Kept.{first_leads, no_loop}
 use Rattle.run_laying.proofs.RunFacts.{contains_in, end_below, inner_of, leads_from, leads_to, once_first, only_two, step_of, IsInner}
 use Rattle.drawing_search.proofs.LaidAll.{first_end, last_end}
 use Rattle.line_straightening.proofs.Rounds.{alone_other, alone_turned}
-use Rattle.line_straightening.proofs.Turned.{back, back_way, first_at_zero, leads_one, leads_same, next_at, to_back}
+use Rattle.line_straightening.proofs.Turned.{back, back_way, first_at_zero, leads_one, leads_same, next_at, to_back, AreNext}
 use Rattle.line_straightening.proofs.Ways.{IsWay}
 
 -- one corner is one of more
