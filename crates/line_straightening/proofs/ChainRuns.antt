@@ -69,7 +69,7 @@ in_by graph corners n (t ∷ ss) s (inr i) e = by_test (is_forward graph t (way_
     by_test true j = inr j
     by_test false j = j
 
-from_range : (a k : ℕ) (m : NodeId) → In m (map (λ n. (let x : NodeId = record { 0 = n } in x)) (range_with_len a k)) → (a ≤ m.0) × (m.0 < a + k)
+pub from_range : (a k : ℕ) (m : NodeId) → In m (map (λ n. (let x : NodeId = record { 0 = n } in x)) (range_with_len a k)) → (a ≤ m.0) × (m.0 < a + k)
 from_range a zero m i = absurd i
 from_range a (suc k) m (inl e) = let same = ap (λ (x : NodeId). x.0) e in (omega (arith, same), omega (arith, same))
 from_range a (suc k) m (inr i) = let rest = from_range (a + 1) k m i in (omega (arith, rest.0), omega (arith, rest.1))
