@@ -8,6 +8,7 @@ mod TakenOff
 mod OnSketches
 -- walks step by step, and runs that are laid along a walk that is cut
 mod Steps
+mod InnerNodes
 mod RunEnds
 pub mod FewSteps
 mod Laid
