@@ -9,6 +9,7 @@ mod OnSketches
 -- walks step by step, and runs that are laid along a walk that is cut
 mod Steps
 mod InnerNodes
+mod WalksOff
 mod RunEnds
 pub mod FewSteps
 mod Laid
