@@ -8,7 +8,6 @@ mod TakenOff
 mod OnSketches
 -- walks step by step, and runs that are laid along a walk that is cut
 mod Steps
-mod InnerNodes
 mod WalksOff
 mod RunEnds
 pub mod FewSteps

@@ -9,7 +9,7 @@ use Rattle.run_laying.specs.Sketches.{lifted as lifted_off, point_of_node}
 use Rattle.run_laying.proofs.Shown.{stands_below}
 use Rattle.drawing_search.specs.Changes.{AreLiftable, IsLiftable}
 use Rattle.drawing_search.specs.Lifting.{points_along}
-use Rattle.drawing_search.proofs.InnerNodes.{inner_more, inner_none}
+use Rattle.drawing_search.proofs.RunEnds.{inner_end, inner_more}
 use Rattle.drawing_search.proofs.lifting.lift_between.Goals as goal
 
 abbrev none : ChainStep
@@ -18,8 +18,8 @@ none = record { seg = record { 0 = 0 }; to = record { 0 = 0 } }
 -- the nodes that are left before a step
 left : (ts : List ChainStep) (i : ℕ) → 1 ≤ i → i < length ts → inner_nodes (drop (i - 1) ts) ≡ (let ns : List NodeId = (get_or ts (i - 1) none).to ∷ inner_nodes (drop (i + 1 - 1) ts) in ns)
 left ts i some h =
-    let whole : i - 1 + 1 ≡ i + 1 - 1 = omega (arith, some) in
-    inner_more ts (i - 1) none (omega (arith, some, h)) ∙ ap (λ j. (let ns : List NodeId = (get_or ts (i - 1) none).to ∷ inner_nodes (drop j ts) in ns)) whole
+    let whole : i ≡ i + 1 - 1 = omega arith in
+    inner_more ts i none (omega (arith, some)) h ∙ ap (λ j. (let ns : List NodeId = (get_or ts (i - 1) none).to ∷ inner_nodes (drop j ts) in ns)) whole
 
 next : (graph : GraphParts) (k : Sketch) (ts : List ChainStep) (i : ℕ) → 1 ≤ i → i < length ts → AreLiftable graph k (inner_nodes (drop (i - 1) ts))
     → IsLiftable graph k (get_or ts (i - 1) none).to × AreLiftable graph (lifted_off k (get_or ts (i - 1) none).to) (inner_nodes (drop (i + 1 - 1) ts))
@@ -64,16 +64,14 @@ loop-i-preserved c =
 pub returns-clause-sketch : goal.returns-clause-sketch
 returns-clause-sketch c =
     let i = c.loop-i.i in
-    let some : 1 ≤ i = c.loop-i.auto.i in
     let past : length c.args.steps.now ≤ i = c.loop-i-test.false in
-    sym (ap (fold lifted_off c.loop-i.sketch) (inner_none c.args.steps.now (i - 1) (omega (arith, some, past)))) ∙ c.loop-i.invariant.rest
+    sym (ap (fold lifted_off c.loop-i.sketch) (inner_end c.args.steps.now i past)) ∙ c.loop-i.invariant.rest
 
 pub returns-clause-inner : goal.returns-clause-inner
 returns-clause-inner c =
     let i = c.loop-i.i in
-    let some : 1 ≤ i = c.loop-i.auto.i in
     let past : length c.args.steps.now ≤ i = c.loop-i-test.false in
     sym
-    (ap (λ (ns : List NodeId). c.loop-i.lifted.inner.items ++ map (λ (n : NodeId). (n, point_of_node c.args.sketch.now n.0)) ns) (inner_none c.args.steps.now (i - 1) (omega (arith, some, past)))
+    (ap (λ (ns : List NodeId). c.loop-i.lifted.inner.items ++ map (λ (n : NodeId). (n, point_of_node c.args.sketch.now n.0)) ns) (inner_end c.args.steps.now i past)
     ∙ append-nil c.loop-i.lifted.inner.items)
     ∙ c.loop-i.invariant.inner

@@ -6,7 +6,7 @@ use Rattle.run_laying.specs.Attempts.{inner_nodes}
 use Rattle.run_laying.specs.Laying.{Sketch}
 use Rattle.run_laying.specs.Sketches.{lifted}
 use Rattle.drawing_search.specs.Changes.{AreLiftable, IsLiftable}
-use Rattle.drawing_search.proofs.InnerNodes.{inner_more, inner_none}
+use Rattle.drawing_search.proofs.RunEnds.{inner_end, inner_more}
 use Rattle.drawing_search.proofs.laying.Sketch.lift_between.Goals as goal
 
 abbrev none : ChainStep
@@ -15,8 +15,8 @@ none = record { seg = record { 0 = 0 }; to = record { 0 = 0 } }
 -- the nodes that are left before a step
 left : (ts : List ChainStep) (i : ℕ) → 1 ≤ i → i < length ts → inner_nodes (drop (i - 1) ts) ≡ (let ns : List NodeId = (get_or ts (i - 1) none).to ∷ inner_nodes (drop (i + 1 - 1) ts) in ns)
 left ts i some h =
-    let whole : i - 1 + 1 ≡ i + 1 - 1 = omega (arith, some) in
-    inner_more ts (i - 1) none (omega (arith, some, h)) ∙ ap (λ j. (let ns : List NodeId = (get_or ts (i - 1) none).to ∷ inner_nodes (drop j ts) in ns)) whole
+    let whole : i ≡ i + 1 - 1 = omega arith in
+    inner_more ts i none (omega (arith, some)) h ∙ ap (λ j. (let ns : List NodeId = (get_or ts (i - 1) none).to ∷ inner_nodes (drop j ts) in ns)) whole
 
 next : (graph : GraphParts) (k : Sketch) (ts : List ChainStep) (i : ℕ) → 1 ≤ i → i < length ts → AreLiftable graph k (inner_nodes (drop (i - 1) ts))
     → IsLiftable graph k (get_or ts (i - 1) none).to × AreLiftable graph (lifted k (get_or ts (i - 1) none).to) (inner_nodes (drop (i + 1 - 1) ts))
@@ -41,6 +41,5 @@ loop-i-preserved c =
 pub returns : goal.returns
 returns c =
     let i = c.loop-i.i in
-    let some : 1 ≤ i = c.loop-i.auto.i in
     let past : length c.args.steps.now ≤ i = c.loop-i-test.false in
-    sym (ap (fold lifted c.loop-i.self) (inner_none c.args.steps.now (i - 1) (omega (arith, some, past)))) ∙ c.loop-i.invariant.rest
+    sym (ap (fold lifted c.loop-i.self) (inner_end c.args.steps.now i past)) ∙ c.loop-i.invariant.rest
