@@ -91,7 +91,7 @@ share_rises i m count some enough =
     let next : i * m / count + 1 ≤ (i + 1) * m / count = le-div (i * m / count + 1) ((i + 1) * m) count some (omega arith) in
     omega (arith, next)
 
-share_grows : (i j m count : ℕ) → 0 < count → i ≤ j → i * m / count ≤ j * m / count
+pub share_grows : (i j m count : ℕ) → 0 < count → i ≤ j → i * m / count ≤ j * m / count
 share_grows i j m count some order =
     let low : i * m / count * count ≤ i * m = div-mul-le_self (i * m) count in
     let high : i * m ≤ j * m = mul-le-mul_right m order in
