@@ -8,6 +8,8 @@ mod TakenOff
 mod OnSketches
 -- walks step by step, and runs that are laid along a walk that is cut
 mod Steps
+mod Ranges
+mod Farther
 mod WalksOff
 mod RunEnds
 pub mod FewSteps

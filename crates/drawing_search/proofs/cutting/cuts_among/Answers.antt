@@ -1,17 +1,14 @@
-use Rattle.std.proofs.Common.{◌≡◌, ℕ, zero, suc, ◌+◌, ◌-◌, ◌*◌, ◌/◌, ◌<◌, ◌≤◌, List, [], ◌∷◌, ◌++◌, length, map, get_or, sym, ap, ◌∙◌, arith}
+use Rattle.std.proofs.Common.{◌≡◌, ℕ, ◌+◌, ◌-◌, ◌*◌, ◌/◌, ◌<◌, ◌≤◌, List, [], ◌∷◌, ◌++◌, length, map, get_or, sym, ap, ◌∙◌, arith}
 use Rattle.std.proofs.Math.Nat.{mul-div_cancel_left, mul-le-mul_right}
 use Rattle.std.proofs.lemmas.List.{map-append}
 use Rattle.std.specs.List.{range_with_len}
 use Rattle.run_laying.proofs.EvenCuts.{share_grows}
+use Rattle.drawing_search.proofs.Ranges.{range_more}
 use Rattle.drawing_search.proofs.cutting.cuts_among.Goals as goal
 
 -- the place of a cut is among the places
 share_below : (i steps pieces : ℕ) → 0 < pieces → i ≤ pieces → i * steps / pieces ≤ steps
 share_below i steps pieces some h = let all : pieces * steps / pieces ≡ steps = mul-div_cancel_left steps some in omega (arith, share_grows i pieces steps pieces some h, all)
-
-range_more : (a n : ℕ) → range_with_len a (n + 1) ≡ range_with_len a n ++ (a + n) ∷ []
-range_more a zero = ap (λ k. (let v : List ℕ = k ∷ [] in v)) (omega arith)
-range_more a (suc n) = ap (λ (v : List ℕ). a ∷ v) (range_more (a + 1) n ∙ ap (λ k. range_with_len (a + 1) n ++ k ∷ []) (omega arith))
 
 pub index-requires : goal.index-requires
 index-requires c =
