@@ -48,5 +48,6 @@ mod Moving
 mod Attempting
 mod AttemptCases
 mod TriedGroups
+mod GroupOf
 mod Passes
 mod Searches
