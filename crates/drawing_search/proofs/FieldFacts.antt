@@ -2,6 +2,7 @@
 use Rattle.std.proofs.Common.{◌≡◌, refl, sym, ◌∙◌, ap, subst, ℕ, zero, suc, ◌+◌, ◌*◌, ◌<◌, ◌≤◌, Bool, true, false, cond, List, [], ◌∷◌, length, map, drop, get_or, Contains, inl, inr, arith, length-drop}
 use Rattle.std.proofs.Math.ListN.{get_or-map}
 use Rattle.std.proofs.lemmas.List.{drop_more}
+use Rattle.std.proofs.lemmas.Bool.{lt-ltb}
 use Rattle.std.proofs.lemmas.Bool.Decides.{nat_tests}
 use Rattle.std.specs.Prelude.{nat_lt, vec_items}
 use Rattle.std.specs.List.{list_any}
@@ -86,4 +87,4 @@ gain_more scale graph first k ts i d h = ap (steps_gain scale graph first k) (dr
 
     by_rest : (rest : List ChainStep) (b : Bool) → b ≡ nat_lt 0 (length rest) → steps_gain scale graph first k (get_or ts i d ∷ rest) ≡ step_gain scale graph first k (get_or ts i d) b + steps_gain scale graph first k rest
     by_rest [] b e = subst (λ c. step_gain scale graph first k (get_or ts i d) false ≡ step_gain scale graph first k (get_or ts i d) c + 0) (sym e) (omega arith)
-    by_rest (u ∷ us) b e = ap (λ c. step_gain scale graph first k (get_or ts i d) c + steps_gain scale graph first k (u ∷ us)) (sym e)
+    by_rest (u ∷ us) b e = ap (λ c. step_gain scale graph first k (get_or ts i d) c + steps_gain scale graph first k (u ∷ us)) (sym (e ∙ lt-ltb 0 (length (u ∷ us)) (omega arith)))

@@ -1,5 +1,6 @@
 -- A run is laid step by step along a walk that is cut.
 use Rattle.std.proofs.Common.{◌≡◌, refl, sym, ◌∙◌, ap, subst, ℕ, zero, suc, ◌+◌, ◌<◌, ◌≤◌, Bool, true, false, cond, nat_le, nat_lt, List, [], ◌∷◌, length, map, drop, get_or, Option, Some, None, inl, inr, arith, length-drop}
+use Rattle.std.proofs.lemmas.Bool.{lt-ltb}
 use Rattle.std.proofs.lemmas.Bool.Decides.{nat_tests}
 use Rattle.std.proofs.lemmas.List.{drop_more}
 use Rattle.std.specs.List.{range_with_len}
@@ -86,7 +87,7 @@ step_fits graph fit n t (u ∷ us) v vs k w l e h b is = record {
   segment = h.steps.0;
   node = end_below graph fit t.seg t.to.0 h.steps.0 (leads_to graph n t h.steps.1);
   free = h.none t (inl refl);
-  to = subst (λ a. StandsAfter a k t.to.0 (end_point v)) (sym is) (h.lifted t.to (inl refl));
+  to = subst (λ a. StandsAfter a k t.to.0 (end_point v)) (sym (is ∙ lt-ltb 0 (length (u ∷ us)) (omega arith))) (h.lifted t.to (inl refl));
 }
 
 further : (graph : GraphParts) → IsConsistent graph → (n : NodeId) (t : ChainStep) (ts : List ChainStep) (v : PlainWalk) (vs : List PlainWalk) (k : Sketch) (w : PlainWalk) (l : SegId) (e : ℕ)

@@ -1,6 +1,6 @@
 -- The attempts of a group, one after another, and groups after groups.
 use Rattle.std.proofs.Common.{◌≡◌, refl, sym, ◌∙◌, ap, ap₂, subst, ℕ, zero, suc, ◌+◌, ◌-◌, ◌*◌, ◌/◌, ◌%◌, ◌<◌, ◌≤◌, Bool, true, false, cond, eqb, nat_le, nat_lt, List, [], ◌∷◌, ◌++◌, length, drop, fold, map, get_or, Option, Some, None, ◌⊎◌, inl, inr, arith}
-use Rattle.std.proofs.lemmas.Bool.{cases_lt, le-leb, leb-false, lt-leb, ltb-true}
+use Rattle.std.proofs.lemmas.Bool.{cases_lt, le-leb, leb-false, lt-leb, ltb-true, ne_eqb}
 use Rattle.std.proofs.lemmas.List.{drop_all, drop_more}
 use Rattle.std.specs.List.{flat_map, range_with_len}
 use Rattle.map_base.specs.declared.ids.NodeId.{NodeId}
@@ -69,15 +69,22 @@ attempts_with n nodes runs = cond (eqb n 0) (record { nodes = nodes; dir = dir.N
 
 with_many : (n : ℕ) (nodes : List NodeId) (runs : List Chain) → length (attempts_with n nodes runs) ≡ cond (eqb n 0) 1 (8 * n)
 with_many zero nodes runs = refl
-with_many (suc n) nodes runs = vectors_many nodes runs 0 (suc n)
+with_many (suc n) nodes runs =
+    let no : eqb (suc n) 0 ≡ false = ne_eqb (suc n) 0 (λ e. absurd (omega (arith, e))) in
+    ap (λ b. length (cond b (record { nodes = nodes; dir = dir.N; count = 0; runs = runs } ∷ []) (attempts_by (suc n) nodes runs))) no
+    ∙ vectors_many nodes runs 0 (suc n)
+    ∙ sym (ap (λ b. cond b 1 (8 * suc n)) no)
 
 with_at : (n : ℕ) (nodes : List NodeId) (runs : List Chain) (i : ℕ) (d : Attempt) → i < cond (eqb n 0) 1 (8 * n)
     → get_or (attempts_with n nodes runs) i d ≡ record { nodes = nodes; dir = direction (i % 8); count = cond (eqb n 0) 0 (2 * (i / 8 + 1)); runs = runs }
 with_at zero nodes runs zero d h = refl
 with_at zero nodes runs (suc i) d h = absurd (omega (arith, h))
 with_at (suc n) nodes runs i d h =
+    let no : eqb (suc n) 0 ≡ false = ne_eqb (suc n) 0 (λ e. absurd (omega (arith, e))) in
     let far : 2 * (0 + i / 8 + 1) ≡ 2 * (i / 8 + 1) = omega arith in
-    vector_at nodes runs d 0 (suc n) i h ∙ ap (λ c. (let a : Attempt = record { nodes = nodes; dir = direction (i % 8); count = c; runs = runs } in a)) far
+    ap (λ b. get_or (cond b (record { nodes = nodes; dir = dir.N; count = 0; runs = runs } ∷ []) (attempts_by (suc n) nodes runs)) i d) no
+    ∙ vector_at nodes runs d 0 (suc n) i (subst (λ b. i < cond b 1 (8 * suc n)) no h)
+    ∙ ap (λ c. (let a : Attempt = record { nodes = nodes; dir = direction (i % 8); count = c; runs = runs } in a)) (far ∙ sym (ap (λ b. cond b 0 (2 * (i / 8 + 1))) no))
 
 pub attempts_many : (g : Group) → length (attempts_in g) ≡ cond (eqb g.lengths 0) 1 (8 * g.lengths)
 attempts_many g = with_many g.lengths g.nodes g.runs

@@ -1,5 +1,5 @@
 -- Steps that lose their walks, one after another.
-use Rattle.std.proofs.Common.{◌≡◌, refl, sym, ◌∙◌, ap, ap₂, ℕ, zero, suc, ◌+◌, ◌<◌, List, [], ◌∷◌, length, drop, get_or, Option, None, option_map, inl, inr, arith, get_or-set_other}
+use Rattle.std.proofs.Common.{◌≡◌, refl, sym, ◌∙◌, ap, ap₂, subst, ℕ, zero, suc, ◌+◌, ◌<◌, List, [], ◌∷◌, length, drop, get_or, Option, None, option_map, inl, inr, arith, get_or-set_other}
 use Rattle.std.specs.List.{cons_option, filter_map}
 use Rattle.map_base.specs.declared.ids.SegId.{SegId}
 use Rattle.line_chains.specs.declared.chain.ChainStep.{ChainStep}
@@ -22,4 +22,6 @@ walks_off k s (t ∷ ts) off =
 pub once_rest : (ts : List ChainStep) (i : ℕ) (d : ChainStep) → AreOnce ts → i < length ts → IsOff (drop (i + 1) ts) (get_or ts i d).seg
 once_rest [] i d once h = absurd (omega (arith, h))
 once_rest (t ∷ ts) zero d once h = once_first t ts once
-once_rest (t ∷ ts) (suc i) d once h = once_rest ts i d once.1 (omega (arith, h))
+once_rest (t ∷ ts) (suc i) d once h =
+    let next : suc i + 1 ≡ suc (i + 1) = omega arith in
+    subst (λ k. IsOff (drop k (t ∷ ts)) (get_or ts i d).seg) (sym next) (once_rest ts i d once.1 (omega (arith, h)))

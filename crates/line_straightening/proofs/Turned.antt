@@ -115,7 +115,9 @@ next_at graph n [] steps i d h = absurd (omega arith)
 next_at graph n (t ∷ []) steps i d h = absurd (omega (arith, h))
 next_at graph n (t ∷ u ∷ us) steps zero d h = record { alone = steps.2; leads = (first_leads graph t.to u us steps.3).1; inner = inl refl }
 next_at graph n (t ∷ u ∷ us) steps (suc i) d h =
-    let rest = next_at graph t.to (u ∷ us) steps.3 i d (omega (arith, h)) in record { alone = rest.alone; leads = rest.leads; inner = inr rest.inner }
+    let rest = next_at graph t.to (u ∷ us) steps.3 i d (omega (arith, h)) in
+    let next : suc i + 1 ≡ suc (i + 1) = omega arith in
+    subst (λ k. AreNext graph (t ∷ u ∷ us) (get_or (u ∷ us) i d) (get_or (t ∷ u ∷ us) k d)) (sym next) (record { alone = rest.alone; leads = rest.leads; inner = inr rest.inner })
 
 pub first_at_zero : (graph : GraphParts) (n : NodeId) (ts : List ChainStep) → AreSteps graph n ts → (d : ChainStep) → 0 < length ts → LeadsTo graph n (get_or ts 0 d) × (first_seg_of ts ≡ (get_or ts 0 d).seg)
 first_at_zero graph n [] steps d some = absurd (omega (arith, some))
