@@ -124,7 +124,9 @@ module _ (graph : GraphParts) (fit : IsConsistent graph) (bounds : Bounds) (ws :
       let nodes = same_sum (node_weight_in scale graph (points_all graph first) k) (node_weight_by scale graph first ws) (range_with_len 0 (length graph.kinds)) (λ n i. same_node scale first n (omega (arith, in_range 0 (length graph.kinds) n i))) in
       let segments =
       same_sum (λ s. segment_weight scale k (record { 0 = s })) (λ s. walk_weight_by scale (get_or ws (s - 0) (record { start = nowhere; steps = [] }))) (range_with_len 0 (length graph.ends))
-      (λ s i. ap (walk_weight_if scale) (whole_walk s (record { start = nowhere; steps = [] }) (omega (arith, in_range 0 (length graph.ends) s i)))) in
+      (λ s i.
+      let same : s ≡ s - 0 = omega arith in
+      ap (walk_weight_if scale) (whole_walk s (record { start = nowhere; steps = [] }) (omega (arith, in_range 0 (length graph.ends) s i)) ∙ ap (λ j. Some (get_or ws j (let none : PlainWalk = record { start = nowhere; steps = [] } in none))) same)) in
       let walks = sym (sum_map (walk_weight_by scale) (λ s. get_or ws (s - 0) (record { start = nowhere; steps = [] })) (range_with_len 0 (length graph.ends))) ∙ ap (sum_by (walk_weight_by scale)) (by_places (record { start = nowhere; steps = [] }) ws (length graph.ends) drawn.each) in
       omega (arith, nodes, segments, walks)
 

@@ -148,7 +148,7 @@ is_priced scale graph ts = by_length (cases_Bool (eqb (length ts) 1))
     none_alone (t ∷ u ∷ us) e = absurd (omega (arith, eqb-true (length (t ∷ u ∷ us)) 1 e))
 
     by_free : eqb (length ts) 1 ≡ false → (nat_lt 0 free ≡ true) ⊎ (nat_lt 0 free ≡ false) → IsPriced scale graph ts
-    by_free e (inl some) = made 0 (ap (λ b. cond b (1 + scale.turns) rest) e ∙ ap (λ b. cond b 0 (min scale.overs (1 + scale.turns))) some) (omega arith, λ m i f. omega arith) refl
+    by_free e (inl some) = made 0 (ap (λ b. cond b (1 + scale.turns) rest) e ∙ ap (λ b. cond b 0 (min scale.overs (1 + scale.turns))) some) (omega arith, λ m i f. omega arith) (omega arith)
     by_free e (inr no) =
         let none : free ≡ 0 = grind (arith, nat_tests, no) in
         made (min scale.overs (1 + scale.turns)) (ap (λ b. cond b (1 + scale.turns) rest) e ∙ ap (λ b. cond b 0 (min scale.overs (1 + scale.turns))) no) (omega arith, λ m i f. omega arith)
