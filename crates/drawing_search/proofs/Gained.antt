@@ -323,7 +323,7 @@ module _ (graph : GraphParts) (fit : IsConsistent graph) (k : Sketch) (h : IsLeg
 
         all_zero : (ps : List (SegId × SegId)) → sum_by (λ (pair : SegId × SegId). 0) ps ≡ 0
         all_zero [] = refl
-        all_zero (p ∷ ps) = sum_by-cons (λ (pair : SegId × SegId). 0) p ps ∙ all_zero ps
+        all_zero (p ∷ ps) = let rest = all_zero ps in let all = sum_by-cons (λ (pair : SegId × SegId). 0) p ps in omega (arith, rest, all)
 
   -- what a node weighs more
   abbrev more : ℕ → ℕ
@@ -448,7 +448,7 @@ module _ (graph : GraphParts) (fit : IsConsistent graph) (k : Sketch) (h : IsLeg
 
           zeros : (ps : List (SegId × SegId)) → sum_by (λ (pair : SegId × SegId). 0) ps ≡ 0
           zeros [] = refl
-          zeros (p ∷ ps) = sum_by-cons (λ (pair : SegId × SegId). 0) p ps ∙ zeros ps
+          zeros (p ∷ ps) = let rest = zeros ps in let all = sum_by-cons (λ (pair : SegId × SegId). 0) p ps in omega (arith, rest, all)
 
   no_less : (n : ℕ) → In n nodes → node_weight_in scale graph first k n ≤ node_weight_in scale graph first new n
   no_less n (inl e) = subst (λ j. node_weight_in scale graph first k j ≤ node_weight_in scale graph first new j) (sym e) (omega (arith, from_more))

@@ -23,7 +23,7 @@ cost_parts (d ∷ e ∷ ds) = let rest = cost_parts (e ∷ ds) in omega (arith, 
 -- ---- one way after another
 
 pub steps_append : (ds es : List Dir) → steps_cost (ds ++ es) ≡ steps_cost ds + steps_cost es
-steps_append [] es = refl
+steps_append [] es = omega arith
 steps_append (d ∷ ds) es = let rest = steps_append ds es in omega (arith, rest)
 
 -- the turn from the last of directions into the first of others
@@ -33,9 +33,9 @@ turn_over_cut (Some d) None = 0
 turn_over_cut (Some d) (Some e) = turn_between d e
 
 pub turns_append : (ds es : List Dir) → turns_of (ds ++ es) ≡ turns_of ds + turn_over_cut (last_of ds) (slice_get es 0) + turns_of es
-turns_append [] es = refl
+turns_append [] es = omega arith
 turns_append (d ∷ []) [] = refl
-turns_append (d ∷ []) (e ∷ es) = refl
+turns_append (d ∷ []) (e ∷ es) = omega arith
 turns_append (d ∷ f ∷ ds) es = let rest = turns_append (f ∷ ds) es in omega (arith, rest)
 
 -- ---- and walked back
