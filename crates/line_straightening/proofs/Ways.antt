@@ -222,6 +222,9 @@ module _ (graph : GraphParts) (fit : IsConsistent graph) (corners : List Bool) (
               let u : ChainStep = record { seg = other_of (round_of graph z) last; to = far_end graph (other_of (round_of graph z) last) z } in
               absurd (too_many u other off)
             where
+              many_once : (us : List ChainStep) → AreOnce us → ((t : ChainStep) → In t us → t.seg.0 < length graph.ends) → length graph.ends < length us → ⊥
+              many_once us once all many = let few = few_once graph us once all in omega (arith, few, many)
+
               too_many : (u : ChainStep) → IsOther graph last z u.seg → IsOff ts u.seg → ⊥
               too_many u other off =
                   let more = once_push ts u g.once off in
@@ -232,6 +235,3 @@ module _ (graph : GraphParts) (fit : IsConsistent graph) (corners : List Bool) (
                   each t (inl i) h = (step_of graph n ts g.steps t i).segment
                   each t (inr (inl e)) h = subst (λ (p : ChainStep). p.seg.0 < length graph.ends) (sym e) h
                   each t (inr (inr none)) h = absurd none
-
-              many_once : (us : List ChainStep) → AreOnce us → ((t : ChainStep) → In t us → t.seg.0 < length graph.ends) → length graph.ends < length us → ⊥
-              many_once us once all many = let few = few_once graph us once all in omega (arith, few, many)
