@@ -1,7 +1,7 @@
 -- Drawings in the making that differ at most in where nodes lie that don't stand: they have one board, weigh the same, and
 -- the same runs can be laid on them.
-use Rattle.std.proofs.Common.{◌≡◌, refl, sym, ◌∙◌, ap, ap₂, subst, ℕ, zero, suc, ◌+◌, ◌*◌, ◌<◌, Bool, true, false, cond, not, nat_le, List, [], ◌∷◌, length, get_or, set, replicate, zip, Option, Some, None, ◌⊎◌, inl, inr, arith, length-set, get_or-set_other}
-use Rattle.std.proofs.lemmas.Bool.{cases_Bool, cases_eq}
+use Rattle.std.proofs.Common.{◌≡◌, refl, sym, ◌∙◌, ap, ap₂, subst, ℕ, zero, suc, ◌+◌, ◌*◌, Bool, true, false, cond, not, nat_le, List, [], ◌∷◌, length, get_or, set, replicate, zip, Option, Some, None, ◌⊎◌, inl, inr, arith, length-set, get_or-set_other}
+use Rattle.std.proofs.lemmas.Bool.{cases_eq}
 use Rattle.std.specs.List.{filter_map, list_all, list_any, range_with_len, sum_by}
 use Rattle.map_base.specs.declared.ids.NodeId.{NodeId}
 use Rattle.map_base.specs.declared.ids.SegId.{SegId}

@@ -1,12 +1,11 @@
 -- The cases of an attempt: its nodes have no room, its runs add too much, they can't be laid, or the drawing gets lighter.
-use Rattle.std.proofs.Common.{◌≡◌, refl, sym, ◌∙◌, ap, ap₂, subst, ℕ, zero, suc, ◌+◌, ◌<◌, ◌≤◌, Bool, true, false, cond, eqb, List, [], ◌∷◌, length, fold, map, get_or, set, Option, Some, None, ◌⊎◌, inl, inr, arith, length-set, get_or-set_same, get_or-set_other}
+use Rattle.std.proofs.Common.{◌≡◌, refl, sym, ◌∙◌, ap, subst, ℕ, ◌+◌, ◌<◌, ◌≤◌, Bool, true, false, cond, eqb, List, [], ◌∷◌, length, fold, map, get_or, set, Option, Some, None, ◌⊎◌, inl, inr, arith, length-set, get_or-set_same, get_or-set_other}
 use Rattle.std.proofs.lemmas.Bool.{cases_eq, eq-eqb, ne_eqb}
 use Rattle.std.specs.List.{sum_by}
 use Rattle.map_base.specs.declared.ids.NodeId.{NodeId}
 use Rattle.graph_core.specs.declared.parts.GraphParts.{GraphParts}
 use Rattle.graph_core.specs.Consistent.{IsConsistent}
 use Rattle.line_chains.specs.declared.chain.Chain.{Chain}
-use Rattle.line_chains.specs.declared.chain.ChainStep.{ChainStep}
 use Rattle.line_chains.specs.Chains.{end_of}
 use Rattle.octi_grid.specs.declared.point.GridPoint.{GridPoint}
 use Rattle.octi_grid.specs.Walks.{PlainWalk}
@@ -15,9 +14,9 @@ use Rattle.segment_router.proofs.Places.{in_at}
 use Rattle.segment_router.proofs.SettledLemmas.{nowhere}
 use Rattle.drawing_weights.specs.Scales.{apart_weight_by, Scale}
 use Rattle.run_laying.specs.Attempts.{inner_nodes, may_move}
-use Rattle.run_laying.specs.Laying.{all_laid, Sketch}
-use Rattle.run_laying.specs.Runs.{IsFitting, IsRun}
-use Rattle.run_laying.specs.Sketches.{is_standing, lifted, point_of_node, walk_in, IsFreeFor, IsLegalSketch}
+use Rattle.run_laying.specs.Laying.{Sketch}
+use Rattle.run_laying.specs.Runs.{IsFitting}
+use Rattle.run_laying.specs.Sketches.{is_standing, lifted, point_of_node, IsFreeFor, IsLegalSketch}
 use Rattle.run_laying.proofs.Attempted.{IsClearFor}
 use Rattle.run_laying.proofs.Shown.{stands_below}
 use Rattle.drawing_search.specs.declared.group.Group.{Group}
@@ -28,12 +27,12 @@ use Rattle.drawing_search.specs.Bounds.{gains_at_least}
 use Rattle.drawing_search.specs.Changes.{all_moved, has_room, moved_by, point_after, stood_at, AreApart, AreLayable, AreLiftable, CanStandEach}
 use Rattle.drawing_search.specs.Gains.{first_point, sketch_weight}
 use Rattle.drawing_search.specs.Lifting.{attempt_by, CameOf, IsLifted}
-use Rattle.drawing_search.specs.Tries.{if_below, without, AreAllLaid, IsSettled}
-use Rattle.drawing_search.proofs.Alikes.{alike_back, alike_on, alike_self, legal_alike, same_weight}
+use Rattle.drawing_search.specs.Tries.{without, AreAllLaid, IsSettled}
+use Rattle.drawing_search.proofs.Alikes.{alike_self, legal_alike}
 use Rattle.drawing_search.proofs.Attempting.{came_none, came_some, have_bounds, no_room}
 use Rattle.drawing_search.proofs.LaidAll.{same_gains}
 use Rattle.drawing_search.proofs.LayingAll.{least_of, too_heavy, IsReady}
-use Rattle.drawing_search.proofs.Lifts.{group_of, IsGroup}
+use Rattle.drawing_search.proofs.Lifts.{group_of}
 use Rattle.drawing_search.proofs.Moving.{begun_clear, begun_is_legal, can_stand_moved, moved_back, moved_liftable, moved_once, old_flags, same_room, stood_alike, stood_each_weighs}
 use Rattle.drawing_search.proofs.PutBack.{stood_walks, ArePutOnce, IsPut}
 

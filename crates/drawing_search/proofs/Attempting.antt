@@ -1,5 +1,5 @@
 -- What comes of an attempt, where its runs are laid on what is alike what it lays them on.
-use Rattle.std.proofs.Common.{◌≡◌, refl, sym, ◌∙◌, ap, ap₂, subst, ℕ, ◌+◌, ◌<◌, ◌≤◌, ◌^◌, Bool, true, false, cond, nat_lt, List, [], ◌∷◌, length, fold, map, get_or, Option, Some, None, ◌⊎◌, inl, inr, arith}
+use Rattle.std.proofs.Common.{◌≡◌, refl, sym, ◌∙◌, ap, subst, ℕ, ◌<◌, Bool, true, false, cond, nat_lt, List, [], ◌∷◌, length, map, Option, Some, None, inl, inr, arith}
 use Rattle.std.proofs.lemmas.Bool.{ltb-true}
 use Rattle.std.proofs.lemmas.List.FromFn.{get_or-map-range_with_len}
 use Rattle.std.specs.List.{range_with_len}
@@ -17,7 +17,7 @@ use Rattle.drawing_weights.specs.Scales.{Scale}
 use Rattle.run_laying.specs.Attempts.{attempted_on, may_move, Attempt}
 use Rattle.run_laying.specs.Laying.{all_laid, if_laid, laid, Sketch}
 use Rattle.run_laying.specs.Runs.{AreBeside, IsFitting, IsRun}
-use Rattle.run_laying.specs.Sketches.{is_standing, point_of_node, IsLegalSketch}
+use Rattle.run_laying.specs.Sketches.{is_standing, IsLegalSketch}
 use Rattle.run_laying.proofs.Attempted.{beside_off, laid_on, still_clear, IsClearFor}
 use Rattle.drawing_search.specs.declared.group.Group.{Group}
 use Rattle.drawing_search.specs.declared.group.Vector.{Vector}

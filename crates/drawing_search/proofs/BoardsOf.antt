@@ -1,5 +1,5 @@
 -- How the board of a sketch changes.
-use Rattle.std.proofs.Common.{◌≡◌, refl, sym, ◌∙◌, ap, ap₂, subst, ℕ, zero, suc, ◌<◌, Bool, true, false, not, ◌&&◌, ◌||◌, List, [], ◌∷◌, length, get_or, set, Option, Some, None, ◌⊎◌, inl, inr, arith, length-set, get_or-set_same, get_or-set_other}
+use Rattle.std.proofs.Common.{◌≡◌, refl, sym, ◌∙◌, ap, subst, ℕ, zero, suc, ◌<◌, Bool, true, false, not, ◌&&◌, ◌||◌, List, [], ◌∷◌, length, get_or, set, Option, Some, None, ◌⊎◌, inl, inr, arith, length-set, get_or-set_same, get_or-set_other}
 use Rattle.std.proofs.lemmas.Bool.{and_from, and_parts, cases_eq, not-true, true≢false}
 use Rattle.std.specs.List.{filter_map, list_any, zip}
 use Rattle.map_base.specs.declared.ids.NodeId.{NodeId}
@@ -10,7 +10,7 @@ use Rattle.octi_grid.specs.Ways.{are_one}
 use Rattle.octi_grid.specs.Walks.{doubled_of, PlainWalk}
 use Rattle.octi_grid.specs.Legal.{is_among}
 use Rattle.octi_grid.proofs.Members.{any_from, are_one_from, are_one-refl, one_point, same_test}
-use Rattle.grid_board.specs.Boards.{with_node, with_walk, without_node, BoardParts}
+use Rattle.grid_board.specs.Boards.{with_node, with_walk, without_node}
 use Rattle.segment_router.specs.Routes.{has_doubled}
 use Rattle.run_laying.specs.Laying.{board_of, standing_point, standing_points, Sketch}
 use Rattle.run_laying.specs.Sketches.{is_standing, lifted, point_of_node, stood, walk_in, with_walk_of, IsLegalSketch}

@@ -1,5 +1,5 @@
 -- What the joined pairs of a field are.
-use Rattle.std.proofs.Common.{◌≡◌, refl, sym, ◌∙◌, ap, subst, ℕ, zero, suc, ◌+◌, ◌*◌, ◌<◌, ◌≤◌, Bool, true, false, cond, List, [], ◌∷◌, length, map, drop, get_or, Contains, inl, inr, arith, length-drop}
+use Rattle.std.proofs.Common.{◌≡◌, refl, sym, ◌∙◌, ap, subst, ℕ, ◌+◌, ◌<◌, ◌≤◌, Bool, true, false, cond, List, [], ◌∷◌, length, map, drop, get_or, Contains, inl, inr, arith, length-drop}
 use Rattle.std.proofs.Math.ListN.{get_or-map}
 use Rattle.std.proofs.lemmas.List.{drop_more}
 use Rattle.std.proofs.lemmas.Bool.{lt-ltb}
@@ -13,13 +13,13 @@ use Rattle.graph_core.specs.Consistent.{IsConsistent}
 use Rattle.line_chains.specs.declared.chain.ChainStep.{ChainStep}
 use Rattle.octi_grid.specs.declared.point.GridPoint.{GridPoint}
 use Rattle.octi_grid.proofs.Members.{In}
-use Rattle.segment_router.proofs.Places.{all_in, in_at}
+use Rattle.segment_router.proofs.Places.{all_in}
 use Rattle.segment_router.proofs.RoutingLemmas.{round_within}
 use Rattle.drawing_weights.specs.Scales.{joined_pairs, join_same, Scale}
 use Rattle.run_laying.specs.Laying.{Sketch}
 use Rattle.drawing_search.specs.declared.gains.Field.{Field}
 use Rattle.drawing_search.specs.Gains.{pairs_at, step_gain, steps_gain, IsField}
-use Rattle.drawing_search.proofs.JoinedPairs.{few_pairs, AreBelow}
+use Rattle.drawing_search.proofs.JoinedPairs.{few_pairs}
 use Rattle.drawing_search.proofs.Takable.{in_from}
 
 -- a pair comes of a join

@@ -1,17 +1,16 @@
 -- What a run adds to the weight of a drawing on which it is laid: its walks, the nodes between its ends, and the turns of
 -- lines that go on from it at both ends.
-use Rattle.std.proofs.Common.{◌≡◌, refl, sym, ◌∙◌, ap, ap₂, subst, ℕ, zero, suc, ◌+◌, ◌-◌, ◌*◌, ◌<◌, ◌≤◌, Bool, true, false, cond, eqb, ◌||◌, List, [], ◌∷◌, length, map, get_or, set, Contains, Option, Some, None, ◌⊎◌, inl, inr, arith, get_or-set_other}
+use Rattle.std.proofs.Common.{◌≡◌, refl, sym, ◌∙◌, ap, ap₂, subst, ℕ, ◌+◌, ◌-◌, ◌*◌, ◌<◌, ◌≤◌, true, false, cond, eqb, ◌||◌, List, [], ◌∷◌, length, map, get_or, Option, Some, None, ◌⊎◌, inl, inr, arith, get_or-set_other}
 use Rattle.std.proofs.lemmas.Bool.{cases_Bool, eq-eqb, eqb-true, or_cases, or_left, or_right, true≢false}
 use Rattle.std.proofs.lemmas.List.Sums.{sum_by-cons}
-use Rattle.std.specs.List.{list_any, range_with_len, sum_by}
+use Rattle.std.specs.List.{range_with_len, sum_by}
 use Rattle.map_base.specs.declared.ids.NodeId.{NodeId}
 use Rattle.map_base.specs.declared.ids.SegId.{SegId}
 use Rattle.graph_core.specs.declared.parts.GraphParts.{GraphParts}
-use Rattle.graph_core.specs.declared.parts.Join.{Join}
 use Rattle.graph_core.specs.Consistent.{IsConsistent}
 use Rattle.line_chains.specs.declared.chain.Chain.{Chain}
 use Rattle.line_chains.specs.declared.chain.ChainStep.{ChainStep}
-use Rattle.line_chains.specs.Chains.{end_after, end_of, ends_of, last_seg, round_of}
+use Rattle.line_chains.specs.Chains.{end_after, end_of, ends_of, last_seg}
 use Rattle.octi_grid.specs.declared.dir.Dir.{Dir}
 use Rattle.octi_grid.specs.declared.point.GridPoint.{GridPoint}
 use Rattle.octi_grid.specs.Costs.{turn_between}
@@ -26,18 +25,18 @@ use Rattle.drawing_weights.specs.Scales.{apart_weight_by, turn_over, Scale}
 use Rattle.run_laying.specs.Attempts.{inner_nodes}
 use Rattle.run_laying.specs.Laying.{board_under, first_seg_of, last_seg_of, with_piece, with_pieces, Sketch}
 use Rattle.run_laying.specs.Runs.{AreOnce, AreSteps, IsRun, LeadsTo, MeetAlone}
-use Rattle.run_laying.specs.Sketches.{is_standing, point_of_node, walk_in, IsEndOf, IsLegalSketch}
+use Rattle.run_laying.specs.Sketches.{is_standing, point_of_node, IsEndOf, IsLegalSketch}
 use Rattle.run_laying.proofs.Attempted.{IsClearFor}
 use Rattle.run_laying.proofs.LaidRuns.{keeps_lifted, keeps_standing, same_walk, to_stands}
 use Rattle.run_laying.proofs.Reversed.{twice}
 use Rattle.run_laying.proofs.Shown.{stands_below}
 use Rattle.run_laying.proofs.RunFacts.{contains_in, end_below, inner_of, leads_to, once_first, only_two, step_of, IsInner, IsOff}
 use Rattle.drawing_search.specs.Changes.{AreApart}
-use Rattle.drawing_search.specs.Gains.{apart_in, first_point, has_segment, node_weight_in, pairs_at, run_gain, segment_weight, sketch_weight, step_gain, steps_gain, turn_by, turn_if, turn_in, turns_by, turns_from, turns_in, walk_weight_if}
+use Rattle.drawing_search.specs.Gains.{apart_in, first_point, has_segment, node_weight_in, pairs_at, run_gain, segment_weight, sketch_weight, steps_gain, turn_by, turn_if, turn_in, turns_by, turns_from, turns_in, walk_weight_if}
 use Rattle.drawing_search.proofs.FieldFacts.{pair_below, pair_joined, IsJoined}
 use Rattle.drawing_search.proofs.Growing.{grown, in_range, is_one_of, same_sum, sum_both, sum_grows, sum_map, AreDifferent}
 use Rattle.drawing_search.proofs.TurnSums.{turn_same_back, turn_turned}
-use Rattle.drawing_search.proofs.Takable.{inner_apart, on_or_off}
+use Rattle.drawing_search.proofs.Takable.{inner_apart}
 
 -- ---- which segments of a run end where
 

@@ -1,5 +1,5 @@
 -- A run is laid step by step along a walk that is cut.
-use Rattle.std.proofs.Common.{◌≡◌, refl, sym, ◌∙◌, ap, subst, ℕ, zero, suc, ◌+◌, ◌<◌, ◌≤◌, Bool, true, false, cond, nat_le, nat_lt, List, [], ◌∷◌, length, map, drop, get_or, Option, Some, None, inl, inr, arith, length-drop}
+use Rattle.std.proofs.Common.{◌≡◌, refl, sym, ◌∙◌, ap, subst, ℕ, ◌+◌, ◌<◌, Bool, true, false, cond, nat_le, nat_lt, List, [], ◌∷◌, length, map, drop, get_or, Option, Some, None, inl, arith, length-drop}
 use Rattle.std.proofs.lemmas.Bool.{lt-ltb}
 use Rattle.std.proofs.lemmas.Bool.Decides.{nat_tests}
 use Rattle.std.proofs.lemmas.List.{drop_more}
@@ -12,12 +12,10 @@ use Rattle.line_chains.specs.declared.chain.Chain.{Chain}
 use Rattle.line_chains.specs.declared.chain.ChainStep.{ChainStep}
 use Rattle.octi_grid.specs.declared.point.GridPoint.{GridPoint}
 use Rattle.octi_grid.specs.Walks.{cost_of, end_point, points_of, PlainWalk}
-use Rattle.octi_grid.proofs.Members.{In}
 use Rattle.walk_search.specs.Routes.{if_within}
 use Rattle.run_laying.specs.Laying.{board_under, laid_along, run_walk, with_piece, with_pieces, Sketch}
 use Rattle.run_laying.specs.Pieces.{cut_place, cuts_at, even_steps, pieces_of}
-use Rattle.run_laying.specs.Runs.{AreSteps}
-use Rattle.run_laying.specs.Sketches.{is_standing, point_of_node, walk_in, IsLegalSketch}
+use Rattle.run_laying.specs.Sketches.{is_standing, point_of_node, walk_in}
 use Rattle.run_laying.proofs.LaidRuns.{laid_further, IsLaying}
 use Rattle.run_laying.proofs.RunFacts.{end_below, leads_to}
 use Rattle.drawing_search.specs.Changes.{StandsAfter}

@@ -1,5 +1,5 @@
 -- Runs of an attempt that were laid so far, and what is left where they are taken away again.
-use Rattle.std.proofs.Common.{◌≡◌, refl, sym, ◌∙◌, ap, subst, ℕ, zero, suc, ◌<◌, Bool, true, false, List, [], ◌∷◌, ◌++◌, length, fold, get_or, set, Option, Some, None, ◌⊎◌, inl, inr, arith, length-set}
+use Rattle.std.proofs.Common.{◌≡◌, refl, sym, ◌∙◌, ap, subst, ℕ, Bool, true, false, List, [], ◌∷◌, ◌++◌, length, fold, get_or, Some, None, ◌⊎◌, inl, inr, arith, length-set}
 use Rattle.std.proofs.lemmas.Bool.{cases_Bool, true≢false}
 use Rattle.map_base.specs.declared.ids.NodeId.{NodeId}
 use Rattle.map_base.specs.declared.ids.SegId.{SegId}
@@ -19,7 +19,7 @@ use Rattle.run_laying.specs.Sketches.{is_standing, point_of_node, walk_in, IsLeg
 use Rattle.run_laying.proofs.Attempted.{IsClearFor, IsLaidOn}
 use Rattle.run_laying.proofs.LaidRuns.{keeps_lifted, keeps_standing, same_bounds, same_walk, to_stands}
 use Rattle.run_laying.proofs.Kept.{inner_step}
-use Rattle.run_laying.proofs.RunFacts.{end_below, inner_of, leads_to, step_of, IsOff}
+use Rattle.run_laying.proofs.RunFacts.{inner_of}
 use Rattle.drawing_search.specs.Alike.{AreAlike}
 use Rattle.drawing_search.specs.Changes.{without_run, AreTakable}
 use Rattle.drawing_search.proofs.Gained.{leads_where, IsBetweenSteps}

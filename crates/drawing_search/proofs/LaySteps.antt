@@ -1,8 +1,8 @@
 -- A run that is laid along the walk that was found: where it is cut, and how its steps begin.
-use Rattle.std.proofs.Common.{◌≡◌, refl, sym, ◌∙◌, ap, subst, ℕ, suc, ◌+◌, ◌<◌, ◌≤◌, ◌⊎◌, inl, inr, Bool, true, false, List, [], ◌∷◌, length, map, get_or, Option, Some, None, arith}
+use Rattle.std.proofs.Common.{◌≡◌, refl, sym, ◌∙◌, ap, subst, ℕ, ◌+◌, ◌<◌, ◌≤◌, ◌⊎◌, inl, inr, true, false, List, [], ◌∷◌, length, map, get_or, Some, None, arith}
 use Rattle.std.proofs.lemmas.Bool.{cases_lt, leb-true}
 use Rattle.std.proofs.lemmas.List.FromFn.{get_or-map-range_with_len}
-use Rattle.std.specs.List.{list_all, range_with_len}
+use Rattle.std.specs.List.{range_with_len}
 use Rattle.std.specs.Prelude.{nat_le}
 use Rattle.map_base.specs.declared.ids.NodeId.{NodeId}
 use Rattle.graph_core.specs.declared.parts.GraphParts.{GraphParts}
@@ -15,12 +15,10 @@ use Rattle.octi_grid.specs.declared.point.GridPoint.{GridPoint}
 use Rattle.octi_grid.specs.Ways.{points_from}
 use Rattle.octi_grid.specs.Walks.{points_of, IsWalk, PlainWalk}
 use Rattle.octi_grid.specs.Legal.{is_even}
-use Rattle.octi_grid.proofs.Members.{In}
-use Rattle.grid_board.specs.Boards.{contains}
 use Rattle.segment_router.proofs.Places.{all_in}
 use Rattle.walk_search.specs.Routes.{if_within}
 use Rattle.run_laying.specs.Attempts.{inner_nodes}
-use Rattle.run_laying.specs.Laying.{board_under, first_seg_of, last_seg_of, run_walk, with_pieces, Sketch}
+use Rattle.run_laying.specs.Laying.{board_under, first_seg_of, last_seg_of, run_walk, Sketch}
 use Rattle.run_laying.specs.Pieces.{cut_place, even_steps, piece_of, pieces_of, point_at}
 use Rattle.run_laying.specs.Runs.{IsRun}
 use Rattle.run_laying.specs.Sketches.{is_standing, walk_in, IsFreeFor, IsLegalSketch}

@@ -1,5 +1,5 @@
 -- Runs of an attempt are laid one after another, and given up as soon as the drawing can't get lighter by it.
-use Rattle.std.proofs.Common.{◌≡◌, refl, sym, ◌∙◌, ap, ap₂, subst, ℕ, ◌+◌, ◌-◌, ◌/◌, ◌<◌, ◌≤◌, Bool, true, false, cond, eqb, nat_le, nat_lt, List, [], ◌∷◌, Option, Some, None, ◌⊎◌, inl, inr, arith}
+use Rattle.std.proofs.Common.{◌≡◌, refl, sym, ◌∙◌, ap, subst, ℕ, ◌+◌, ◌-◌, ◌/◌, ◌<◌, ◌≤◌, Bool, true, false, cond, eqb, nat_le, nat_lt, List, ◌∷◌, Option, Some, None, ◌⊎◌, inl, inr, arith}
 use Rattle.std.proofs.lemmas.Bool.{cases_lt, le-leb}
 use Rattle.std.proofs.lemmas.Bool.Decides.{nat_tests}
 use Rattle.std.specs.Prelude.{slice_index}
@@ -11,12 +11,11 @@ use Rattle.line_chains.specs.Chains.{end_of}
 use Rattle.octi_grid.specs.declared.point.GridPoint.{GridPoint}
 use Rattle.octi_grid.specs.Walks.{cost_of, PlainWalk}
 use Rattle.octi_grid.proofs.Members.{In}
-use Rattle.walk_search.specs.Reaching.{reach_of}
 use Rattle.walk_search.specs.Routes.{if_within}
 use Rattle.drawing_weights.specs.Scales.{Scale}
 use Rattle.run_laying.specs.Laying.{all_laid, board_under, if_laid, laid, laid_along, run_walk, Sketch}
 use Rattle.run_laying.specs.Runs.{AreBeside, IsRun}
-use Rattle.run_laying.specs.Sketches.{is_standing, point_of_node, IsLegalSketch}
+use Rattle.run_laying.specs.Sketches.{point_of_node, IsLegalSketch}
 use Rattle.run_laying.proofs.Attempted.{beside_off, laid_on, still_clear, IsClearFor, IsLaidOn}
 use Rattle.drawing_search.specs.declared.least.LeastTurns.{LeastTurns}
 use Rattle.drawing_search.specs.Bounds.{gains_at_least, HaveBounds}

@@ -1,6 +1,6 @@
 -- What is left of a whole drawing from which runs are taken off, and then nodes that are to move: what it weighs, and that all
 -- of it can be put back.
-use Rattle.std.proofs.Common.{◌≡◌, refl, sym, ◌∙◌, ap, ap₂, subst, ℕ, zero, suc, ◌+◌, ◌*◌, ◌<◌, ◌≤◌, Bool, true, false, not, cond, eqb, ◌&&◌, List, [], ◌∷◌, ◌++◌, length, fold, map, take, get_or, set, Contains, Option, Some, None, ◌⊎◌, inl, inr, arith, length-set, get_or-set_same, get_or-set_other}
+use Rattle.std.proofs.Common.{◌≡◌, refl, sym, ◌∙◌, ap, ap₂, subst, ℕ, zero, suc, ◌+◌, ◌*◌, ◌<◌, Bool, true, false, not, cond, eqb, ◌&&◌, List, [], ◌∷◌, ◌++◌, length, fold, map, take, get_or, Option, Some, None, ◌⊎◌, inl, inr, arith, get_or-set_same, get_or-set_other}
 use Rattle.std.proofs.lemmas.Bool.{cases_eq, eq-eqb, eqb-true, ne_eqb, true≢false}
 use Rattle.std.proofs.lemmas.List.FromFn.{get_or-map-range_with_len, length-map-range_with_len}
 use Rattle.std.specs.List.{cons_option, filter_map, flat_map, list_all, list_any, range_with_len, sum_by}
@@ -14,8 +14,7 @@ use Rattle.line_chains.specs.declared.chain.ChainStep.{ChainStep}
 use Rattle.line_chains.specs.Chains.{end_after, end_of, round_of}
 use Rattle.octi_grid.specs.declared.point.GridPoint.{GridPoint}
 use Rattle.octi_grid.specs.Walks.{points_of, PlainWalk}
-use Rattle.octi_grid.specs.Legal.{is_even}
-use Rattle.octi_grid.proofs.Members.{any_at, any_from, in_append, in_flat_map, from_flat_map, false_from, In}
+use Rattle.octi_grid.proofs.Members.{any_at, any_from, in_append, in_flat_map, from_flat_map, In}
 use Rattle.grid_board.specs.declared.bounds.Bounds.{Bounds}
 use Rattle.grid_board.specs.Boards.{contains}
 use Rattle.segment_router.proofs.Places.{all_in, in_at}
@@ -30,13 +29,13 @@ use Rattle.run_laying.proofs.Kept.{first_leads}
 use Rattle.run_laying.proofs.RunFacts.{contains_in, end_below, in_round, inner_of, inner_off, leads_from, leads_to, once_first, step_of}
 use Rattle.run_laying.proofs.Shown.{stands_below}
 use Rattle.drawing_search.specs.Alike.{AreAlike}
-use Rattle.drawing_search.specs.Changes.{stood_at, walked_by, without_run, without_walks, AreApart, AreLiftable, AreTakable, CanStand, CanStandEach, CanWalk, CanWalkEach, IsTakable}
+use Rattle.drawing_search.specs.Changes.{stood_at, without_run, without_walks, AreApart, AreLiftable, AreTakable, CanStand, CanWalk, IsTakable}
 use Rattle.drawing_search.specs.Gains.{apart_in, node_weight_in, run_gain, segment_weight, sketch_weight, turns_in}
 use Rattle.drawing_search.specs.Lifting.{points_along, put_back, walk_along, walks_along, CanPutBack}
 use Rattle.drawing_search.specs.Tries.{stays_standing, taken_off, walk_left}
 use Rattle.drawing_search.specs.Trying.{IsWhole}
 use Rattle.drawing_search.proofs.Growing.{at_one, one_more, same_sum}
-use Rattle.drawing_search.proofs.PutBack.{all_back, can_stand_each, can_walk_each, flag_still, same_list, stood_bounds, stood_flags, stood_points, stood_walks, AreGivenOnce, AreOf, ArePutOnce, AreWalksOf, IsGiven, IsLack, IsPut}
+use Rattle.drawing_search.proofs.PutBack.{all_back, can_stand_each, can_walk_each, flag_still, same_list, stood_bounds, stood_flags, stood_points, stood_walks, AreGivenOnce, ArePutOnce, IsGiven, IsPut}
 use Rattle.drawing_search.proofs.Restored.{run_weighs}
 use Rattle.drawing_search.proofs.Takable.{inner_apart, legal_without, liftable_each, walk_below}
 use Rattle.drawing_search.proofs.TakenBack.{inner_beside, lift_bounds, lift_flags, lift_legal, lift_points, lift_walks, low_each, low_on_runs, none_on_runs, runs_beside, runs_points, still_low, still_standing, takable_each, IsInnerOf, IsOneOf, IsOnOf, IsSameBeside}

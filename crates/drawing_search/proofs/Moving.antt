@@ -1,5 +1,5 @@
 -- Nodes that were taken off a whole drawing stand again, moved by a vector: what comes of it is what an attempt lays its runs on.
-use Rattle.std.proofs.Common.{◌≡◌, refl, sym, ◌∙◌, ap, ap₂, subst, ℕ, zero, suc, ◌+◌, ◌*◌, ◌<◌, ◌≤◌, Bool, true, false, not, cond, eqb, ◌&&◌, ◌||◌, List, [], ◌∷◌, length, fold, map, replicate, get_or, set, Option, Some, None, ◌⊎◌, inl, inr, arith, length-set, get_or-set_same, get_or-set_other}
+use Rattle.std.proofs.Common.{◌≡◌, refl, sym, ◌∙◌, ap, ap₂, subst, ℕ, ◌+◌, ◌*◌, ◌<◌, ◌≤◌, Bool, true, false, not, cond, eqb, ◌&&◌, ◌||◌, List, [], ◌∷◌, length, fold, map, get_or, Option, Some, None, ◌⊎◌, inl, inr, arith, length-set, get_or-set_same, get_or-set_other}
 use Rattle.std.proofs.lemmas.Bool.{and_from, and_parts, cases_eq, cases_lt, eq-eqb, eqb-true, ne_eqb, not-true, true≢false}
 use Rattle.std.proofs.lemmas.List.{get_or_default, get_or_past}
 use Rattle.std.proofs.lemmas.List.Sums.{sum_by-cons}
@@ -10,10 +10,9 @@ use Rattle.map_base.specs.declared.ids.SegId.{SegId}
 use Rattle.graph_core.specs.declared.parts.GraphParts.{GraphParts}
 use Rattle.graph_core.specs.Consistent.{IsConsistent}
 use Rattle.line_chains.specs.declared.chain.Chain.{Chain}
-use Rattle.line_chains.specs.Chains.{end_of}
 use Rattle.octi_grid.specs.declared.dir.Dir.{Dir}
 use Rattle.octi_grid.specs.declared.point.GridPoint.{GridPoint}
-use Rattle.octi_grid.specs.Ways.{after, are_one, doubled, doubled_from, points_from, step_from}
+use Rattle.octi_grid.specs.Ways.{are_one, doubled, doubled_from, points_from, step_from}
 use Rattle.octi_grid.specs.Walks.{doubled_of, points_of, PlainWalk}
 use Rattle.octi_grid.specs.Legal.{is_among, is_even}
 use Rattle.octi_grid.proofs.Members.{among_at, among_from, any_at, any_from, are_one_from, one_point, same_test, In}
@@ -25,7 +24,7 @@ use Rattle.drawing_weights.specs.Scales.{apart_weight_by, Scale}
 use Rattle.run_laying.specs.Attempts.{attempted_on, comes_over_point, has_node, is_inner, may_move, may_move_to, stands_at, without_runs, Attempt}
 use Rattle.run_laying.specs.Drawings.{IsOnBoard}
 use Rattle.run_laying.specs.Laying.{board_of, standing_points, Sketch}
-use Rattle.run_laying.specs.Runs.{IsFitting, IsRun}
+use Rattle.run_laying.specs.Runs.{IsFitting}
 use Rattle.run_laying.specs.Sketches.{is_standing, lifted, point_of_node, stood, walk_in, IsEndOf, IsLegalSketch}
 use Rattle.run_laying.proofs.Attempted.{IsClearFor}
 use Rattle.run_laying.proofs.Begun.{begun_legal, in_range as in_numbers}

@@ -1,21 +1,18 @@
 -- Attempts on whole drawings in the making are those on their walks.
-use Rattle.std.proofs.Common.{◌≡◌, refl, sym, ◌∙◌, ap, ap₂, subst, ℕ, zero, suc, ◌+◌, ◌-◌, ◌*◌, ◌<◌, ◌≤◌, Bool, true, false, cond, eqb, not, ◌&&◌, nat_le, nat_lt, List, [], ◌∷◌, length, map, get_or, replicate, slice_get, Option, Some, None, ◌⊎◌, inl, inr, arith}
-use Rattle.std.proofs.lemmas.Bool.{cases_lt}
-use Rattle.std.proofs.lemmas.List.{get_or-map, get_or_past, length-map, length-replicate, get_or-replicate}
+use Rattle.std.proofs.Common.{◌≡◌, refl, sym, ◌∙◌, ap, ap₂, subst, ℕ, zero, suc, ◌+◌, ◌-◌, ◌*◌, ◌<◌, Bool, true, false, cond, not, ◌&&◌, nat_le, nat_lt, List, [], ◌∷◌, length, map, get_or, replicate, slice_get, Option, Some, None, inl, inr, arith}
+use Rattle.std.proofs.lemmas.List.{get_or-map, get_or-replicate}
 use Rattle.std.proofs.lemmas.Option.{slice_get-get_or}
 use Rattle.std.proofs.lemmas.List.FromFn.{get_or-map-range_with_len, length-map-range_with_len}
-use Rattle.std.proofs.lemmas.List.Sums.{sum_by-cons}
 use Rattle.std.specs.List.{filter_map, range_with_len, sum_by}
 use Rattle.map_base.specs.declared.ids.NodeId.{NodeId}
 use Rattle.map_base.specs.declared.ids.SegId.{SegId}
 use Rattle.graph_core.specs.declared.parts.GraphParts.{GraphParts}
 use Rattle.graph_core.specs.Consistent.{IsConsistent}
-use Rattle.line_chains.specs.declared.chain.Chain.{Chain}
 use Rattle.octi_grid.specs.declared.dir.Dir.{Dir}
 use Rattle.octi_grid.specs.declared.point.GridPoint.{GridPoint}
 use Rattle.octi_grid.specs.Legal.{legs_of, port_of, port_where, puts_by, Leg, Put}
 use Rattle.octi_grid.specs.Ways.{after}
-use Rattle.octi_grid.specs.Walks.{end_point, PlainWalk}
+use Rattle.octi_grid.specs.Walks.{PlainWalk}
 use Rattle.octi_grid.proofs.Members.{from_flat_map, In}
 use Rattle.grid_board.specs.declared.bounds.Bounds.{Bounds}
 use Rattle.segment_router.specs.Routes.{ends_of, port_at_node, port_by}
@@ -24,7 +21,7 @@ use Rattle.drawing_weights.specs.Drawn.{points_all, IsDrawn}
 use Rattle.drawing_weights.specs.Scales.{apart_weight_by, node_weight_by, turn_at, turn_over, turns_over, walk_weight_by, weight_by, Scale}
 use Rattle.drawing_weights.specs.Weights.{point_of}
 use Rattle.drawing_weights.proofs.DrawnFacts.{leg_place, put_at, PutAt}
-use Rattle.run_laying.specs.Attempts.{attempted, attempted_on, has_node, if_lighter, improving, is_inner, is_on_runs, point_in_attempt, walk_beside, walks_in, without_runs, Attempt}
+use Rattle.run_laying.specs.Attempts.{attempted_on, has_node, if_lighter, improving, is_inner, is_on_runs, point_in_attempt, walk_beside, walks_in, without_runs, Attempt}
 use Rattle.run_laying.specs.Drawings.{IsOnBoard}
 use Rattle.run_laying.specs.Laying.{board_under, Sketch}
 use Rattle.run_laying.specs.Runs.{IsFitting}

@@ -1,9 +1,9 @@
 -- Passes over attempts follow each other until one makes nothing.
-use Rattle.std.proofs.Common.{◌≡◌, refl, sym, ◌∙◌, ap, subst, ℕ, zero, suc, ◌+◌, ◌<◌, ◌≤◌, Bool, true, false, cond, eqb, min, nat_le, List, [], ◌∷◌, Option, ◌⊎◌, inl, inr, arith}
+use Rattle.std.proofs.Common.{◌≡◌, refl, sym, ◌∙◌, ap, ℕ, zero, suc, ◌+◌, ◌<◌, ◌≤◌, cond, min, List, [], ◌∷◌, Option, arith}
 use Rattle.std.proofs.lemmas.Bool.{eq-eqb, le-leb, ne_eqb}
 use Rattle.octi_grid.specs.Walks.{PlainWalk}
 use Rattle.run_laying.specs.Attempts.{Attempt}
-use Rattle.run_laying.specs.Searches.{after_attempt, after_pass, after_passes, found_with, unless_same, Found}
+use Rattle.run_laying.specs.Searches.{after_pass, after_passes, found_with, Found}
 
 module _ (try : List PlainWalk → Attempt → Option (List PlainWalk)) (attempts : List Attempt) (at_once most : ℕ) where
   pass_full : (limit : ℕ) (rest : List Attempt) (f : Found) → limit ≤ f.made → after_pass try rest limit f ≡ f

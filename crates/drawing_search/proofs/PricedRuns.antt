@@ -1,6 +1,6 @@
 -- What the walk of a run weighs, cut into pieces: its steps, and a price for each turn of 45 degrees, but for turns at nodes
 -- that no line goes over.
-use Rattle.std.proofs.Common.{◌≡◌, refl, sym, ◌∙◌, ap, ap₂, subst, ℕ, zero, suc, ◌+◌, ◌*◌, ◌<◌, ◌≤◌, Bool, true, false, cond, eqb, ◌||◌, List, [], ◌∷◌, ◌++◌, length, filter, get_or, set, Option, Some, None, option_map, slice_get, ◌⊎◌, inl, inr, arith, get_or-set_same, length-set}
+use Rattle.std.proofs.Common.{◌≡◌, refl, sym, ◌∙◌, ap, ap₂, subst, ℕ, suc, ◌+◌, ◌*◌, ◌<◌, ◌≤◌, Bool, true, false, cond, eqb, ◌||◌, List, [], ◌∷◌, length, filter, get_or, Option, Some, None, option_map, slice_get, ◌⊎◌, inl, inr, arith, get_or-set_same, length-set}
 use Rattle.std.proofs.Math.Nat.{mul-le-mul_left, mul-le-mul_right}
 use Rattle.std.proofs.lemmas.Bool.{cases_Bool, eq-eqb, or_right}
 use Rattle.std.proofs.lemmas.List.Sums.{sum_by-cons}
@@ -15,7 +15,7 @@ use Rattle.octi_grid.specs.declared.dir.Dir.{Dir}
 use Rattle.octi_grid.specs.declared.point.GridPoint.{GridPoint}
 use Rattle.octi_grid.specs.Costs.{turn_between}
 use Rattle.octi_grid.specs.Ways.{reverse_of}
-use Rattle.octi_grid.specs.Walks.{cost_of, end_port, last_of, start_port, PlainWalk}
+use Rattle.octi_grid.specs.Walks.{end_port, last_of, start_port, PlainWalk}
 use Rattle.octi_grid.proofs.CostLemmas.{turn_small}
 use Rattle.octi_grid.proofs.Members.{In}
 use Rattle.segment_router.specs.Routes.{port_at_node, port_by}
@@ -25,13 +25,13 @@ use Rattle.run_laying.specs.Attempts.{inner_nodes}
 use Rattle.run_laying.specs.Laying.{board_under, from_low, with_piece, with_pieces, Sketch}
 use Rattle.run_laying.specs.Pieces.{reversed_walk}
 use Rattle.run_laying.specs.Runs.{AreOnce, AreSteps, LeadsTo, MeetAlone}
-use Rattle.run_laying.specs.Sketches.{walk_in, IsEndOf}
+use Rattle.run_laying.specs.Sketches.{walk_in}
 use Rattle.run_laying.proofs.Cuts.{first_start_port}
 use Rattle.run_laying.proofs.LaidRuns.{same_walk, IsCut}
 use Rattle.run_laying.proofs.RunFacts.{end_below, leads_to, once_first}
 use Rattle.run_laying.proofs.Reversed.{twice}
 use Rattle.run_laying.proofs.Turned.{port_from, port_to, turned_of}
-use Rattle.drawing_search.specs.Gains.{apart_in, has_segment, pairs_at, segment_weight, step_gain, steps_gain, turn_if, turn_in, turns_from, walk_weight_if}
+use Rattle.drawing_search.specs.Gains.{has_segment, pairs_at, segment_weight, steps_gain, turn_if, turn_in, turns_from, walk_weight_if}
 use Rattle.drawing_search.specs.Least.{free_nodes, is_free_node}
 use Rattle.drawing_search.proofs.FieldFacts.{pair_joined, IsJoined}
 use Rattle.drawing_search.proofs.TurnSums.{cost_parts, steps_append, steps_back, steps_cost, turn_over_cut, turn_same_back, turn_turned, turns_append, turns_back}

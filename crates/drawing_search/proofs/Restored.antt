@@ -1,6 +1,6 @@
 -- A run that stands is one that is laid along its own walks: so a drawing weighs what it weighs without the run, and what the
 -- run adds.
-use Rattle.std.proofs.Common.{◌≡◌, refl, sym, ◌∙◌, ap, ap₂, subst, ℕ, zero, suc, ◌+◌, ◌<◌, Bool, true, false, cond, List, [], ◌∷◌, length, get_or, set, Option, Some, None, ◌⊎◌, inl, inr, arith, length-set, get_or-set_same, get_or-set_other}
+use Rattle.std.proofs.Common.{◌≡◌, refl, sym, ◌∙◌, ap, subst, ℕ, suc, ◌+◌, ◌<◌, Bool, true, false, cond, List, [], ◌∷◌, length, get_or, set, Option, Some, None, ◌⊎◌, inl, inr, arith, length-set, get_or-set_same, get_or-set_other}
 use Rattle.std.proofs.lemmas.Bool.{cases_eq, eq-eqb, ne_eqb}
 use Rattle.std.proofs.lemmas.List.{set-get_or}
 use Rattle.std.specs.Prelude.{unwrap_or}
@@ -20,7 +20,7 @@ use Rattle.drawing_weights.specs.Scales.{Scale}
 use Rattle.run_laying.specs.Attempts.{inner_nodes}
 use Rattle.run_laying.specs.Laying.{from_low, with_piece, with_pieces, Sketch}
 use Rattle.run_laying.specs.Pieces.{reversed_walk}
-use Rattle.run_laying.specs.Runs.{AreSteps, IsRun, LeadsTo}
+use Rattle.run_laying.specs.Runs.{AreSteps, LeadsTo}
 use Rattle.run_laying.specs.Sketches.{is_standing, point_of_node, walk_in, IsLegalSketch}
 use Rattle.run_laying.proofs.Attempted.{HasWalk, IsClearFor}
 use Rattle.run_laying.proofs.Kept.{first_leads, first_outer, inner_step, last_outer}
@@ -34,7 +34,7 @@ use Rattle.drawing_search.proofs.Gained.{run_gained}
 use Rattle.drawing_search.proofs.PricedRuns.{leads_apart}
 use Rattle.drawing_search.proofs.PutBack.{same_list}
 use Rattle.drawing_search.proofs.Takable.{legal_without, same_stand}
-use Rattle.drawing_search.proofs.TakenBack.{lift_flags, lift_legal, lift_walks, low_each, run_bounds, run_none, run_points, run_stands, run_walks, without_each, IsOneOf}
+use Rattle.drawing_search.proofs.TakenBack.{lift_flags, lift_legal, lift_walks, low_each, run_bounds, run_none, run_points, run_stands, run_walks, without_each}
 
 -- the walk of a segment, from a node over steps
 abbrev pub walk_or : Sketch → SegId → PlainWalk

@@ -1,11 +1,10 @@
 -- The bounds of runs are bounds: a run that is laid adds no less, and its walk costs no more than the limit where it adds no
 -- more than it may.
-use Rattle.std.proofs.Common.{◌≡◌, refl, sym, ◌∙◌, ap, ap₂, subst, ℕ, zero, suc, ◌+◌, ◌-◌, ◌*◌, ◌/◌, ◌<◌, ◌≤◌, Bool, true, false, cond, eqb, nat_lt, ◌||◌, min, List, [], ◌∷◌, length, filter, fold, map, Option, Some, None, option_map, slice_get, ◌⊎◌, inl, inr, arith}
+use Rattle.std.proofs.Common.{◌≡◌, refl, sym, ◌∙◌, ap, subst, ℕ, ◌+◌, ◌-◌, ◌*◌, ◌/◌, ◌<◌, ◌≤◌, Bool, true, false, cond, eqb, nat_lt, ◌||◌, min, List, [], ◌∷◌, length, filter, fold, map, Some, option_map, ◌⊎◌, inl, inr, arith}
 use Rattle.std.proofs.Math.Nat.{mul-le-mul_left}
-use Rattle.std.proofs.lemmas.Bool.{cases_Bool, cases_lt, eq-eqb, eqb-true, or_right}
+use Rattle.std.proofs.lemmas.Bool.{cases_Bool, eqb-true}
 use Rattle.std.proofs.lemmas.Bool.Decides.{nat_tests}
 use Rattle.std.specs.Int.{bit_at}
-use Rattle.std.specs.List.{flat_map}
 use Rattle.std.specs.Prelude.{slice_index}
 use Rattle.map_base.specs.declared.ids.NodeId.{NodeId}
 use Rattle.map_base.specs.declared.ids.SegId.{SegId}
@@ -17,7 +16,7 @@ use Rattle.line_chains.specs.Chains.{end_after, end_of, ends_of, last_seg}
 use Rattle.octi_grid.specs.declared.dir.Dir.{Dir}
 use Rattle.octi_grid.specs.declared.dir.Dir.TheVariants as dir
 use Rattle.octi_grid.specs.declared.point.GridPoint.{GridPoint}
-use Rattle.octi_grid.specs.Ways.{after, number_of, reverse_of}
+use Rattle.octi_grid.specs.Ways.{number_of, reverse_of}
 use Rattle.octi_grid.specs.Walks.{cost_of, end_point, end_port, last_of, start_port, PlainWalk}
 use Rattle.octi_grid.proofs.Members.{in_flat_map, In}
 use Rattle.walk_search.specs.Reaching.{reach_of}
@@ -39,8 +38,8 @@ use Rattle.run_laying.proofs.RunFacts.{step_of}
 use Rattle.run_laying.proofs.Turned.{port_from, port_to, turned_of}
 use Rattle.drawing_search.specs.declared.least.LeastTurns.{LeastTurns}
 use Rattle.drawing_search.specs.Bounds.{IsBoundOf}
-use Rattle.drawing_search.specs.Gains.{pairs_at, run_gain, steps_gain, turns_by, turns_from}
-use Rattle.drawing_search.specs.Least.{allowed_dirs, free_nodes, is_free_node, least_beside, least_by, never, ports_for, straight_way, turn_price, turns_at_least}
+use Rattle.drawing_search.specs.Gains.{pairs_at, run_gain, steps_gain, turns_by}
+use Rattle.drawing_search.specs.Least.{allowed_dirs, free_nodes, least_beside, least_by, never, ports_for, straight_way, turn_price, turns_at_least}
 use Rattle.drawing_search.proofs.Bounded.{free_limit, priced_limit}
 use Rattle.drawing_search.proofs.Gained.{end_turns, from_turns}
 use Rattle.drawing_search.proofs.PricedRuns.{first_leads, have_pieces, leads_apart, priced_run, HavePieces, IsPrice}

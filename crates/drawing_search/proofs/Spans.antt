@@ -1,5 +1,5 @@
 -- The bounds of points near the origin, and the board that reaches past those of a drawing.
-use Rattle.std.proofs.Common.{◌≡◌, ℕ, ◌+◌, ◌≤◌, true, ℤ, pos, neg_ℤ, ◌+ℤ◌, ◌-ℤ◌, ◌≤ℤ◌, List, [], ◌∷◌, fold, Option, Some, None, sym, ap, subst, refl, arith, ◌⊎◌, inl, inr}
+use Rattle.std.proofs.Common.{◌≡◌, ℕ, ◌+◌, ◌≤◌, true, ℤ, pos, neg_ℤ, ◌+ℤ◌, ◌-ℤ◌, ◌≤ℤ◌, List, [], ◌∷◌, fold, Option, Some, None, sym, ap, subst, refl, arith, inl, inr}
 use Rattle.std.specs.Prelude.{nat_le, unsigned_abs, unwrap_or}
 use Rattle.std.specs.List.{flat_map, list_all}
 use Rattle.std.specs.Int.{int_max, int_min}

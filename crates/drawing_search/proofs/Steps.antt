@@ -1,5 +1,5 @@
 -- Walks step by step: their points, and what lies on them between two places.
-use Rattle.std.proofs.Common.{◌≡◌, refl, sym, ◌∙◌, ap, subst, ℕ, zero, suc, ◌+◌, ◌-◌, ◌<◌, ◌≤◌, Bool, true, List, [], ◌∷◌, ◌++◌, length, map, take, drop, reverse, get_or, arith, length-drop}
+use Rattle.std.proofs.Common.{◌≡◌, sym, ◌∙◌, ap, subst, ℕ, zero, suc, ◌+◌, ◌-◌, ◌<◌, ◌≤◌, Bool, true, List, [], ◌∷◌, ◌++◌, length, map, take, drop, reverse, get_or, arith, length-drop}
 use Rattle.std.proofs.Math.Seq.{take-add}
 use Rattle.std.proofs.lemmas.List.{drop_more, get_or-drop, take-append-drop, map-append, reverse-append, take_more}
 use Rattle.std.proofs.lemmas.Bool.{and_parts}
@@ -7,9 +7,9 @@ use Rattle.std.specs.List.{list_all, AllByRecursion}
 use Rattle.octi_grid.specs.declared.dir.Dir.{Dir}
 use Rattle.octi_grid.specs.declared.point.GridPoint.{GridPoint}
 use Rattle.octi_grid.specs.Ways.{after, points_from, reverse_of, step_from, IsWithin}
-use Rattle.octi_grid.specs.Walks.{end_point, points_of, PlainWalk}
+use Rattle.octi_grid.specs.Walks.{end_point, points_of}
 use Rattle.octi_grid.proofs.WayLemmas.{after-append, list_all-points-append}
-use Rattle.run_laying.specs.Pieces.{point_at, reversed_walk}
+use Rattle.run_laying.specs.Pieces.{point_at}
 use Rattle.run_laying.proofs.EvenCuts.{length-points, point_after}
 use Rattle.drawing_search.specs.Tracks.{piece_along, IsTrack}
 

@@ -1,5 +1,5 @@
 -- Runs that were laid are taken away again: what stands then is what stood before.
-use Rattle.std.proofs.Common.{◌≡◌, refl, sym, ◌∙◌, ap, subst, ℕ, zero, suc, ◌+◌, ◌<◌, ◌≤◌, Bool, true, false, List, [], ◌∷◌, length, fold, get_or, set, Option, None, inl, inr, length-set, get_or-set_other}
+use Rattle.std.proofs.Common.{◌≡◌, refl, sym, ◌∙◌, ap, subst, ℕ, zero, suc, Bool, true, false, List, [], ◌∷◌, length, fold, get_or, set, Option, None, inl, inr, length-set, get_or-set_other}
 use Rattle.map_base.specs.declared.ids.NodeId.{NodeId}
 use Rattle.map_base.specs.declared.ids.SegId.{SegId}
 use Rattle.graph_core.specs.declared.parts.GraphParts.{GraphParts}
@@ -14,7 +14,7 @@ use Rattle.run_laying.specs.Laying.{Sketch}
 use Rattle.run_laying.specs.Runs.{AreBeside, IsRun, MeetAlone}
 use Rattle.run_laying.specs.Sketches.{is_standing, lifted, walk_in, with_walk_of, IsEndOf, IsLegalSketch}
 use Rattle.run_laying.proofs.Attempted.{beside_off}
-use Rattle.run_laying.proofs.RunFacts.{inner_of, inner_off, step_of, IsInner, IsOff}
+use Rattle.run_laying.proofs.RunFacts.{inner_of, inner_off, step_of, IsInner}
 use Rattle.drawing_search.specs.Changes.{without_run, without_walks, AreLiftable, AreTakable, IsTakable}
 use Rattle.drawing_search.proofs.Takable.{legal_without, none_left, run_takable, same_stand, same_walks_off, still_none}
 use Rattle.drawing_search.proofs.TakenOff.{lifted_legal}

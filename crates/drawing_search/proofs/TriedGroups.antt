@@ -1,5 +1,5 @@
 -- The attempts of a group, one after another, and groups after groups.
-use Rattle.std.proofs.Common.{◌≡◌, refl, sym, ◌∙◌, ap, ap₂, subst, ℕ, zero, suc, ◌+◌, ◌-◌, ◌*◌, ◌/◌, ◌%◌, ◌<◌, ◌≤◌, Bool, true, false, cond, eqb, nat_le, nat_lt, List, [], ◌∷◌, ◌++◌, length, drop, fold, map, get_or, Option, Some, None, ◌⊎◌, inl, inr, arith}
+use Rattle.std.proofs.Common.{◌≡◌, refl, sym, ◌∙◌, ap, ap₂, subst, ℕ, zero, suc, ◌+◌, ◌-◌, ◌*◌, ◌/◌, ◌%◌, ◌<◌, ◌≤◌, Bool, true, false, cond, eqb, nat_le, nat_lt, List, [], ◌∷◌, ◌++◌, length, drop, get_or, Option, Some, None, ◌⊎◌, inl, inr, arith}
 use Rattle.std.proofs.lemmas.Bool.{cases_lt, le-leb, leb-false, lt-leb, ltb-true, ne_eqb}
 use Rattle.std.proofs.lemmas.List.{drop_all, drop_more}
 use Rattle.std.specs.List.{flat_map, range_with_len}
@@ -17,7 +17,6 @@ use Rattle.run_laying.specs.Searches.{attempts_by, attempts_of_length}
 use Rattle.drawing_search.specs.declared.group.Group.{Group}
 use Rattle.drawing_search.specs.declared.group.Vector.{Vector}
 use Rattle.drawing_search.specs.declared.lifting.Lifted.{Lifted}
-use Rattle.drawing_search.specs.Alike.{AreAlike}
 use Rattle.drawing_search.specs.Gains.{sketch_weight}
 use Rattle.drawing_search.specs.Lifting.{attempt_by, CameOf, IsLifted}
 use Rattle.drawing_search.specs.Searched.{attempts_in}

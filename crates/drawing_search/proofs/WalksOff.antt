@@ -1,15 +1,14 @@
 -- Steps that lose their walks, one after another.
-use Rattle.std.proofs.Common.{◌≡◌, refl, sym, ◌∙◌, ap, ap₂, subst, ℕ, zero, suc, ◌+◌, ◌<◌, List, [], ◌∷◌, length, drop, get_or, Option, None, option_map, inl, inr, arith, get_or-set_other}
-use Rattle.std.specs.List.{cons_option, filter_map}
+use Rattle.std.proofs.Common.{◌≡◌, refl, sym, ap₂, subst, ℕ, zero, suc, ◌+◌, ◌<◌, List, [], ◌∷◌, length, drop, get_or, Option, None, option_map, inl, inr, arith, get_or-set_other}
+use Rattle.std.specs.List.{cons_option}
 use Rattle.map_base.specs.declared.ids.SegId.{SegId}
 use Rattle.line_chains.specs.declared.chain.ChainStep.{ChainStep}
 use Rattle.octi_grid.specs.Walks.{PlainWalk}
-use Rattle.octi_grid.proofs.Members.{In}
 use Rattle.run_laying.specs.Laying.{Sketch}
 use Rattle.run_laying.specs.Runs.{AreOnce}
 use Rattle.run_laying.specs.Sketches.{with_walk_of}
 use Rattle.run_laying.proofs.RunFacts.{once_first, IsOff}
-use Rattle.drawing_search.specs.Lifting.{walk_along, walks_along}
+use Rattle.drawing_search.specs.Lifting.{walks_along}
 
 -- steps over other segments keep theirs
 pub walks_off : (k : Sketch) (s : SegId) (ts : List ChainStep) → IsOff ts s → walks_along (with_walk_of k s None) ts ≡ walks_along k ts

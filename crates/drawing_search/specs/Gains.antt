@@ -1,7 +1,6 @@
 -- What a drawing in the making weighs, and what a run adds to it.
-use Rattle.std.specs.Prelude.{◌≡◌, ℕ, ◌+◌, ◌*◌, ◌<◌, ◌≤◌, ◌==◌, ◌||◌, ◌&&◌, Bool, true, false, pos, List, [], ◌∷◌, length, map, filter, drop, All, if◌then◌else◌, Option, Some, None, slice_index_or, vec_items}
+use Rattle.std.specs.Prelude.{◌≡◌, ℕ, ◌+◌, ◌*◌, ◌<◌, ◌≤◌, ◌==◌, ◌||◌, ◌&&◌, Bool, true, false, pos, List, [], ◌∷◌, length, map, drop, All, if◌then◌else◌, Option, Some, None, slice_index_or, vec_items}
 use Rattle.std.specs.List.{range_with_len, sum_by}
-use Rattle.map_base.specs.declared.ids.NodeId.{NodeId}
 use Rattle.map_base.specs.declared.ids.SegId.{SegId}
 use Rattle.graph_core.specs.declared.parts.GraphParts.{GraphParts}
 use Rattle.graph_core.specs.declared.parts.Join.{Join}

@@ -1,5 +1,5 @@
 -- What a run adds at least, by the ports that its ends may have.
-use Rattle.std.specs.Prelude.{◌≡◌, ℕ, ◌+◌, ◌*◌, ◌-◌, ◌/◌, ◌<◌, ◌==◌, ◌||◌, ◌&&◌, nat_lt, not, max, min, Bool, true, false, List, [], ◌∷◌, length, map, filter, fold, if◌then◌else◌, slice_index_or, ◌-ℤ◌, int_lt, unsigned_abs}
+use Rattle.std.specs.Prelude.{ℕ, ◌+◌, ◌*◌, ◌-◌, ◌/◌, ◌==◌, ◌||◌, ◌&&◌, nat_lt, max, min, Bool, true, false, List, [], length, map, filter, fold, if◌then◌else◌, slice_index_or, ◌-ℤ◌, int_lt, unsigned_abs}
 use Rattle.std.specs.Int.{bit_at}
 use Rattle.std.specs.List.{flat_map}
 use Rattle.map_base.specs.declared.ids.NodeId.{NodeId}

@@ -7,7 +7,6 @@ use Rattle.octi_grid.specs.Walks.{PlainWalk}
 use Rattle.drawing_weights.specs.Scales.{weight_by, Scale}
 use Rattle.run_laying.specs.Attempts.{bounds_past, Attempt}
 use Rattle.run_laying.specs.Drawings.{IsOnBoard}
-use Rattle.run_laying.specs.Runs.{IsFitting}
 use Rattle.run_laying.specs.Searches.{attempts_by, searched}
 use Rattle.drawing_search.specs.declared.group.Group.{Group}
 use Rattle.drawing_search.specs.declared.searching.Searched.{Searched}

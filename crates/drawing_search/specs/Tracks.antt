@@ -1,5 +1,5 @@
 -- Walks step by step.
-use Rattle.std.specs.Prelude.{◌≡◌, ◌-◌, ℕ, List, take, drop, slice_index_or}
+use Rattle.std.specs.Prelude.{◌≡◌, ◌-◌, ℕ, List, take, drop}
 use Rattle.octi_grid.specs.declared.dir.Dir.{Dir}
 use Rattle.octi_grid.specs.declared.point.GridPoint.{GridPoint}
 use Rattle.octi_grid.specs.Ways.{points_from}

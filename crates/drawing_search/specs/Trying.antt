@@ -1,18 +1,17 @@
 -- A search under way.
-use Rattle.std.specs.Prelude.{◌≡◌, ℕ, ◌<◌, Bool, true, false, List, [], length, Option, Some, None, slice_index_or}
-use Rattle.std.specs.List.{filter_map, range_with_len}
+use Rattle.std.specs.Prelude.{◌≡◌, ℕ, ◌<◌, Bool, true, false, List, length, Option, Some, None, slice_index_or}
+use Rattle.std.specs.List.{filter_map}
 use Rattle.graph_core.specs.declared.parts.GraphParts.{GraphParts}
-use Rattle.graph_core.specs.Consistent.{IsConsistent}
 use Rattle.octi_grid.specs.Walks.{PlainWalk}
 use Rattle.grid_board.specs.declared.bounds.Bounds.{Bounds}
 use Rattle.walk_search.specs.Routes.{if_within}
 use Rattle.line_chains.specs.declared.chain.Chain.{Chain}
-use Rattle.drawing_weights.specs.Drawn.{points_all, IsDrawn}
+use Rattle.drawing_weights.specs.Drawn.{points_all}
 use Rattle.drawing_weights.specs.Scales.{weight_by, Scale}
 use Rattle.run_laying.specs.Attempts.{improving, Attempt}
 use Rattle.run_laying.specs.Laying.{board_under, laid_along, run_walk, Sketch}
-use Rattle.run_laying.specs.Searches.{after_attempt, after_pass, Found}
-use Rattle.run_laying.specs.Sketches.{is_standing, walk_in, IsLegalSketch}
+use Rattle.run_laying.specs.Searches.{after_pass, Found}
+use Rattle.run_laying.specs.Sketches.{is_standing, IsLegalSketch}
 
 -- what stays while attempts are made: the graph, by what a drawing is weighed, its first walks, and the board
 pub record Course : Type 0 where

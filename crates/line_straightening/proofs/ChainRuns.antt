@@ -1,5 +1,5 @@
 -- Chains between the corners of a graph are runs, no two of which share a segment.
-use Rattle.std.proofs.Common.{◌≡◌, refl, sym, ◌∙◌, ap, subst, ℕ, zero, suc, ◌+◌, ◌<◌, ◌≤◌, Bool, true, false, not, cond, eqb, nat_lt, ◌&&◌, ◌||◌, List, [], ◌∷◌, ◌++◌, length, map, fold, get_or, Contains, ◌⊎◌, inl, inr, arith}
+use Rattle.std.proofs.Common.{◌≡◌, refl, sym, ◌∙◌, ap, subst, ℕ, zero, suc, ◌+◌, ◌<◌, ◌≤◌, Bool, true, false, not, cond, eqb, nat_lt, ◌&&◌, List, [], ◌∷◌, ◌++◌, length, map, get_or, ◌⊎◌, inl, inr, arith}
 use Rattle.std.proofs.lemmas.Bool.{and_parts, cases_eq, cases_lt, eq-eqb, eqb-true, ltb-true, not-true, or_cases, true≢false}
 use Rattle.std.specs.List.{flat_map, list_any, range_with_len}
 use Rattle.map_base.specs.declared.ids.NodeId.{NodeId}
@@ -15,11 +15,10 @@ use Rattle.octi_grid.proofs.Members.{any_at, from_flat_map, in_append, in_flat_m
 use Rattle.segment_router.proofs.Places.{all_in}
 use Rattle.run_laying.specs.Attempts.{inner_nodes, is_on_runs}
 use Rattle.run_laying.specs.Laying.{first_seg_of}
-use Rattle.run_laying.specs.Runs.{AreBeside, IsBeside, IsRun, LeadsTo}
+use Rattle.run_laying.specs.Runs.{AreBeside, IsBeside, IsRun}
 use Rattle.run_laying.proofs.Attempted.{beside_off}
 use Rattle.run_laying.proofs.Kept.{no_loop}
 use Rattle.run_laying.proofs.RunFacts.{end_below, inner_of, step_of, IsOnRun}
-use Rattle.drawing_search.proofs.Growing.{in_range}
 use Rattle.drawing_search.proofs.LaidAll.{last_end}
 use Rattle.drawing_search.proofs.Takable.{in_from}
 use Rattle.line_straightening.proofs.Corners.{from_corner, kept_corner, new_corner, ring_bend, ring_has, ring_many, along_inner, bend_at}

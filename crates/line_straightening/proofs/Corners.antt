@@ -1,8 +1,7 @@
 -- Corners of a line graph: what becomes one stays one; and what becomes one where chains bend lies between their ends.
-use Rattle.std.proofs.Common.{◌≡◌, refl, sym, ◌∙◌, ap, ap₂, subst, ℕ, zero, suc, ◌+◌, ◌-◌, ◌*◌, ◌<◌, ◌≤◌, Bool, true, false, not, cond, eqb, nat_lt, ◌&&◌, ◌||◌, List, [], ◌∷◌, ◌++◌, length, map, max, min, take, drop, fold, get_or, set, ◌⊎◌, inl, inr, arith, get_or-set_same, get_or-set_other, length-set, length-drop}
+use Rattle.std.proofs.Common.{◌≡◌, refl, sym, ◌∙◌, ap, subst, ℕ, zero, suc, ◌+◌, ◌-◌, ◌<◌, ◌≤◌, Bool, true, false, not, cond, eqb, nat_lt, ◌||◌, List, [], ◌∷◌, ◌++◌, length, map, max, min, take, drop, fold, get_or, set, ◌⊎◌, inl, inr, arith, get_or-set_same, get_or-set_other, length-set, length-drop}
 use Rattle.std.proofs.lemmas.Bool.{and_from, and_parts, cases_eq, cases_lt, eq-eqb, eqb-true, lt-ltb, ltb-true, not-false, or_left, true≢false}
 use Rattle.std.proofs.lemmas.List.{get_or-drop, get_or-map, get_or-take, length-map, length-take}
-use Rattle.std.specs.List.{flat_map}
 use Rattle.std.specs.Prelude.{slice_range}
 use Rattle.map_base.specs.declared.ids.NodeId.{NodeId}
 use Rattle.map_base.specs.declared.ids.SegId.{SegId}
@@ -10,8 +9,8 @@ use Rattle.graph_core.specs.declared.parts.GraphParts.{GraphParts}
 use Rattle.graph_core.specs.Consistent.{IsConsistent}
 use Rattle.line_chains.specs.declared.chain.Chain.{Chain}
 use Rattle.line_chains.specs.declared.chain.ChainStep.{ChainStep}
-use Rattle.line_chains.specs.Bends.{bend_place, bends_of, chain_bends, corners_of, far_off, first_place, greatest, is_bent, last_place, node_at, off_of, offs_of, place_of, with_corner}
-use Rattle.line_chains.specs.Chains.{chains_of, end_after, end_of, is_corner, is_reached, nodes_along, nodes_of, plain_corners, ring_corners, round_of, with_ring}
+use Rattle.line_chains.specs.Bends.{bend_place, bends_of, chain_bends, far_off, first_place, greatest, is_bent, last_place, node_at, off_of, offs_of, place_of, with_corner}
+use Rattle.line_chains.specs.Chains.{end_after, end_of, is_reached, nodes_along, nodes_of, plain_corners, ring_corners, round_of, with_ring}
 use Rattle.octi_grid.proofs.Members.{in_append, In}
 use Rattle.run_laying.specs.Attempts.{inner_nodes}
 use Rattle.line_straightening.proofs.Ways.{HasCorners}

@@ -1,5 +1,5 @@
 -- The attempts of a pass fit the graph: nodes that move have all their segments on the runs that end at them.
-use Rattle.std.proofs.Common.{◌≡◌, refl, sym, ◌∙◌, ap, ap₂, subst, ℕ, zero, suc, ◌+◌, ◌*◌, ◌%◌, ◌<◌, ◌≤◌, Bool, true, false, not, cond, eqb, nat_lt, ◌&&◌, ◌||◌, List, [], ◌∷◌, ◌++◌, length, filter, map, get_or, Contains, ◌⊎◌, inl, inr, arith}
+use Rattle.std.proofs.Common.{◌≡◌, refl, sym, ◌∙◌, ap, ap₂, subst, ℕ, zero, suc, ◌+◌, ◌*◌, ◌%◌, ◌<◌, ◌≤◌, Bool, true, false, not, cond, eqb, nat_lt, ◌&&◌, ◌||◌, List, [], ◌∷◌, ◌++◌, length, filter, map, get_or, ◌⊎◌, inl, inr, arith}
 use Rattle.std.proofs.lemmas.Bool.{cases_eq, eq-eqb, eqb-true, lt-ltb, ltb-false, ne_eqb, or_left, or_parts, or_right, true≢false}
 use Rattle.std.specs.List.{flat_map, list_any, range_with_len}
 use Rattle.std.specs.Prelude.{All}
@@ -19,7 +19,7 @@ use Rattle.segment_router.proofs.Places.{all_in, in_at}
 use Rattle.run_laying.specs.Attempts.{has_node, inner_nodes, is_inner, is_on_runs, run_of, Attempt}
 use Rattle.run_laying.specs.Laying.{first_seg_of}
 use Rattle.run_laying.specs.Runs.{AreBeside, AreSteps, IsBeside, IsFitting, IsRun, MeetAlone}
-use Rattle.run_laying.specs.Searches.{attempts_alone, attempts_by, attempts_of_length}
+use Rattle.run_laying.specs.Searches.{attempts_alone, attempts_of_length}
 use Rattle.run_laying.specs.Sketches.{IsEndOf}
 use Rattle.run_laying.proofs.Begun.{in_range as in_numbers}
 use Rattle.run_laying.proofs.RunFacts.{end_below, in_round}
@@ -29,7 +29,7 @@ use Rattle.drawing_search.proofs.LaidAll.{last_end}
 use Rattle.drawing_search.proofs.Lifts.{from_map, in_mapped}
 use Rattle.drawing_search.proofs.Takable.{in_from}
 use Rattle.line_straightening.specs.Straightening.{moves_of, moves_over, runs_at, single_runs, straight_attempts}
-use Rattle.line_straightening.proofs.ChainRuns.{chain_first, chain_in, chain_is, chain_run, chain_way, chains_beside, corner_chains_beside, corners_has, from_range, IsChain}
+use Rattle.line_straightening.proofs.ChainRuns.{chain_in, chain_is, chain_run, chain_way, corner_chains_beside, corners_has, from_range}
 use Rattle.line_straightening.proofs.Rounds.{alone_other, alone_turned}
 use Rattle.line_straightening.proofs.Straight.{one_loop}
 use Rattle.line_straightening.proofs.Turned.{back, back_end, back_first, back_last, back_way, leads_same, to_back}

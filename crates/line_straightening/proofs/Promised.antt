@@ -1,13 +1,12 @@
 -- What straightening promises comes of what a search does.
-use Rattle.std.proofs.Common.{◌≡◌, ◌∙◌, sym, ap, subst, ℕ, ◌+◌, true, List}
+use Rattle.std.proofs.Common.{◌≡◌, subst, ℕ, ◌+◌, List}
 use Rattle.std.specs.List.{list_all}
 use Rattle.graph_core.specs.declared.parts.GraphParts.{GraphParts}
 use Rattle.line_chains.specs.Bends.{corners_of}
-use Rattle.octi_grid.specs.declared.point.GridPoint.{GridPoint}
 use Rattle.octi_grid.specs.Walks.{points_of, PlainWalk}
 use Rattle.octi_grid.proofs.Members.{all_at, all_from}
 use Rattle.grid_board.specs.Boards.{contains}
-use Rattle.grid_board.specs.Points.{are_near, is_near}
+use Rattle.grid_board.specs.Points.{is_near}
 use Rattle.run_laying.specs.Attempts.{bounds_past, Attempt}
 use Rattle.drawing_search.specs.declared.searching.Searched.{Searched}
 use Rattle.drawing_search.specs.Searched.{IsSearched}

@@ -1,5 +1,5 @@
 -- A way between corners that begins and ends at one node, where a way between fewer corners goes over this.
-use Rattle.std.proofs.Common.{◌≡◌, refl, sym, ◌∙◌, ap, subst, ℕ, zero, suc, ◌+◌, ◌<◌, ◌≤◌, Bool, true, false, List, [], ◌∷◌, length, get_or, Contains, ◌⊎◌, inl, inr, arith}
+use Rattle.std.proofs.Common.{◌≡◌, refl, sym, ◌∙◌, ap, subst, ℕ, zero, suc, ◌+◌, ◌<◌, ◌≤◌, Bool, true, false, List, [], ◌∷◌, length, get_or, ◌⊎◌, inl, inr, arith}
 use Rattle.std.proofs.lemmas.Bool.{cases_lt, true≢false}
 use Rattle.map_base.specs.declared.ids.NodeId.{NodeId}
 use Rattle.map_base.specs.declared.ids.SegId.{SegId}
@@ -13,8 +13,8 @@ use Rattle.run_laying.specs.Attempts.{inner_nodes}
 use Rattle.run_laying.specs.Laying.{first_seg_of}
 use Rattle.run_laying.specs.Runs.{AreOnce, AreSteps, LeadsTo, MeetAlone}
 use Rattle.run_laying.specs.Sketches.{IsEndOf}
-use Rattle.run_laying.proofs.Kept.{first_leads, no_loop}
-use Rattle.run_laying.proofs.RunFacts.{contains_in, end_below, inner_of, leads_from, leads_to, once_first, only_two, step_of, IsInner}
+use Rattle.run_laying.proofs.Kept.{no_loop}
+use Rattle.run_laying.proofs.RunFacts.{end_below, once_first, only_two}
 use Rattle.drawing_search.proofs.LaidAll.{first_end, last_end}
 use Rattle.line_straightening.proofs.Rounds.{alone_other, alone_turned}
 use Rattle.line_straightening.proofs.Turned.{back, back_way, first_at_zero, leads_one, leads_same, next_at, to_back, AreNext}

@@ -1,20 +1,17 @@
 -- Ways from their ends, and two ways that share a step.
-use Rattle.std.proofs.Common.{◌≡◌, refl, sym, ◌∙◌, ap, subst, ℕ, zero, suc, ◌+◌, ◌<◌, ◌≤◌, Bool, true, false, List, [], ◌∷◌, ◌++◌, length, length-append, get_or, Contains, ◌⊎◌, inl, inr, arith}
+use Rattle.std.proofs.Common.{◌≡◌, refl, sym, ◌∙◌, ap, subst, ℕ, zero, suc, ◌+◌, ◌<◌, Bool, true, false, List, [], ◌∷◌, ◌++◌, length, length-append, get_or, Contains, ◌⊎◌, inl, inr, arith}
 use Rattle.std.proofs.lemmas.Bool.{true≢false}
 use Rattle.map_base.specs.declared.ids.NodeId.{NodeId}
 use Rattle.map_base.specs.declared.ids.SegId.{SegId}
 use Rattle.graph_core.specs.declared.parts.GraphParts.{GraphParts}
-use Rattle.graph_core.specs.Consistent.{IsConsistent}
 use Rattle.line_chains.specs.declared.chain.ChainStep.{ChainStep}
 use Rattle.line_chains.specs.Chains.{end_after, ends_of, is_corner, last_seg}
 use Rattle.octi_grid.proofs.Members.{in_append, in_left, in_right, In}
-use Rattle.segment_router.proofs.Places.{in_at}
 use Rattle.run_laying.specs.Attempts.{inner_nodes}
 use Rattle.run_laying.specs.Laying.{first_seg_of}
 use Rattle.run_laying.specs.Runs.{AreOnce, AreSteps, LeadsTo, MeetAlone}
-use Rattle.run_laying.specs.Sketches.{IsEndOf}
-use Rattle.run_laying.proofs.Kept.{first_leads, no_loop}
-use Rattle.run_laying.proofs.RunFacts.{contains_in, once_first, IsOff}
+use Rattle.run_laying.proofs.Kept.{first_leads}
+use Rattle.run_laying.proofs.RunFacts.{contains_in, once_first}
 use Rattle.line_straightening.proofs.Rounds.{alone_other, alone_turned}
 use Rattle.line_straightening.proofs.Ways.{end_push, follows_push, inner_push, last_push, once_push, steps_push, IsWay}
 

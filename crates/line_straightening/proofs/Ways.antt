@@ -1,11 +1,10 @@
 -- Ways from corners over nodes that are none to corners.
-use Rattle.std.proofs.Common.{◌≡◌, refl, sym, ◌∙◌, ap, subst, ℕ, zero, suc, ◌+◌, ◌<◌, ◌≤◌, Bool, true, false, cond, eqb, List, [], ◌∷◌, ◌++◌, append_assoc, append-nil, length, length-append, map, get_or, Contains, ◌⊎◌, inl, inr, arith}
-use Rattle.std.proofs.lemmas.Bool.{cases_Bool, cases_eq, eq-eqb, eqb-true, ne_eqb, or_cases, true≢false}
+use Rattle.std.proofs.Common.{◌≡◌, refl, sym, ◌∙◌, ap, subst, ℕ, zero, suc, ◌+◌, ◌<◌, Bool, true, false, cond, List, [], ◌∷◌, ◌++◌, append_assoc, append-nil, length, length-append, get_or, Contains, ◌⊎◌, inl, inr, arith}
+use Rattle.std.proofs.lemmas.Bool.{cases_Bool, cases_eq, eq-eqb, ne_eqb, true≢false}
 use Rattle.map_base.specs.declared.ids.NodeId.{NodeId}
 use Rattle.map_base.specs.declared.ids.SegId.{SegId}
 use Rattle.graph_core.specs.declared.parts.GraphParts.{GraphParts}
 use Rattle.graph_core.specs.Consistent.{IsConsistent}
-use Rattle.line_chains.specs.declared.chain.Chain.{Chain}
 use Rattle.line_chains.specs.declared.chain.ChainStep.{ChainStep}
 use Rattle.line_chains.specs.Chains.{end_after, ends_of, far_end, is_corner, last_seg, other_of, round_of, steps_from, unless_ended, way_from}
 use Rattle.octi_grid.proofs.Members.{in_append, In}
@@ -17,7 +16,7 @@ use Rattle.run_laying.specs.Laying.{first_seg_of}
 use Rattle.run_laying.specs.Runs.{AreOnce, AreSteps, LeadsTo, MeetAlone}
 use Rattle.run_laying.specs.Sketches.{IsEndOf}
 use Rattle.run_laying.proofs.Kept.{last_outer}
-use Rattle.run_laying.proofs.RunFacts.{contains_in, end_below, in_round, leads_to, once_first, step_of, IsOff}
+use Rattle.run_laying.proofs.RunFacts.{contains_in, end_below, in_round, leads_to, step_of, IsOff}
 use Rattle.drawing_search.proofs.FewSteps.{few_once}
 use Rattle.drawing_search.proofs.Gained.{last_at}
 use Rattle.drawing_search.proofs.LaidAll.{last_end}

@@ -1,8 +1,7 @@
 -- A legal sketch stays legal where one more segment gets a walk that meets the others at its own nodes alone.
-use Rattle.std.proofs.Common.{◌≡◌, refl, sym, ◌∙◌, ap, subst, ℕ, ◌<◌, Bool, true, false, List, [], length, get_or, set, Option, Some, None, ◌⊎◌, inl, inr, arith, length-set, get_or-set_same, get_or-set_other}
+use Rattle.std.proofs.Common.{◌≡◌, sym, ◌∙◌, ap, subst, ℕ, ◌<◌, true, [], length, get_or, Option, Some, None, ◌⊎◌, inl, inr, arith, length-set, get_or-set_same, get_or-set_other}
 use Rattle.std.proofs.lemmas.Bool.{cases_eq}
 use Rattle.std.specs.List.{filter_map, list_all}
-use Rattle.map_base.specs.declared.ids.NodeId.{NodeId}
 use Rattle.map_base.specs.declared.ids.SegId.{SegId}
 use Rattle.graph_core.specs.declared.parts.GraphParts.{GraphParts}
 use Rattle.graph_core.specs.Consistent.{IsConsistent}
@@ -11,7 +10,6 @@ use Rattle.octi_grid.specs.declared.point.GridPoint.{GridPoint}
 use Rattle.octi_grid.specs.Ways.{doubled}
 use Rattle.octi_grid.specs.Walks.{doubled_of, end_point, points_of, PlainWalk}
 use Rattle.octi_grid.specs.Legal.{are_clockwise, are_distinct, is_among}
-use Rattle.octi_grid.proofs.Members.{In}
 use Rattle.grid_board.specs.Boards.{contains}
 use Rattle.segment_router.specs.Routes.{port_at_node, port_by}
 use Rattle.segment_router.proofs.LaidPorts.{ports_agree}

@@ -1,5 +1,5 @@
 -- Runs that are laid one after another: what comes of a legal sketch is legal, and complete where the runs have what it lacks.
-use Rattle.std.proofs.Common.{◌≡◌, refl, sym, ◌∙◌, ap, subst, ℕ, zero, suc, ◌<◌, ◌≤◌, Bool, true, false, cond, eqb, nat_le, List, [], ◌∷◌, length, get_or, set, Option, Some, None, ◌⊎◌, inl, inr, arith}
+use Rattle.std.proofs.Common.{◌≡◌, refl, sym, ◌∙◌, ap, subst, ℕ, zero, suc, ◌≤◌, Bool, true, false, cond, eqb, nat_le, List, [], ◌∷◌, length, get_or, set, Option, Some, None, inl, inr, arith}
 use Rattle.std.proofs.lemmas.Bool.{eq-eqb, leb-true, true≢false}
 use Rattle.std.specs.List.{list_any}
 use Rattle.map_base.specs.declared.ids.NodeId.{NodeId}
@@ -9,10 +9,10 @@ use Rattle.graph_core.specs.Consistent.{IsConsistent}
 use Rattle.line_chains.specs.declared.chain.Chain.{Chain}
 use Rattle.line_chains.specs.declared.chain.ChainStep.{ChainStep}
 use Rattle.line_chains.specs.Chains.{end_of}
-use Rattle.octi_grid.specs.Walks.{end_point, points_of, PlainWalk}
+use Rattle.octi_grid.specs.Walks.{points_of, PlainWalk}
 use Rattle.octi_grid.specs.Legal.{is_even}
 use Rattle.octi_grid.proofs.Members.{any_from, In}
-use Rattle.run_laying.specs.Attempts.{inner_nodes, is_on_runs}
+use Rattle.run_laying.specs.Attempts.{inner_nodes}
 use Rattle.run_laying.specs.Laying.{all_laid, board_under, first_seg_of, from_low, if_laid, laid, laid_along, last_seg_of, run_walk, with_piece, with_pieces, Sketch}
 use Rattle.run_laying.specs.Pieces.{even_steps, pieces_of}
 use Rattle.run_laying.specs.Runs.{AreBeside, IsRun}
@@ -21,7 +21,7 @@ use Rattle.run_laying.proofs.EvenCuts.{length-pieces, pieces_cut}
 use Rattle.run_laying.proofs.FreeRoutes.{free_of_route}
 use Rattle.run_laying.proofs.LaidRuns.{has_walk, keeps_lifted, keeps_standing, run_legal, same_bounds, same_walk, to_stands, IsCut, IsLaying}
 use Rattle.run_laying.proofs.Piecewise.{IsFreeWalk}
-use Rattle.run_laying.proofs.RunFacts.{contains_in, end_below, inner_of, inner_off, leads_to, step_of, IsOff, IsOnRun}
+use Rattle.run_laying.proofs.RunFacts.{contains_in, end_below, inner_of, inner_off, leads_to, step_of, IsOnRun}
 
 -- a run may be laid: its ends stand, the nodes between them don't, and its segments have no walk
 pub record IsClearFor (k : Sketch) (c : Chain) : Type 0 where

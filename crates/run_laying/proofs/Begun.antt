@@ -1,5 +1,5 @@
 -- A legal drawing from which runs are taken away, and whose nodes have moved, is a legal sketch.
-use Rattle.std.proofs.Common.{◌≡◌, refl, sym, ◌∙◌, ap, ap₂, subst, ℕ, zero, suc, ◌+◌, ◌%◌, ◌<◌, ◌≤◌, Bool, true, false, not, cond, eqb, ◌&&◌, ◌||◌, List, [], ◌∷◌, length, get_or, replicate, slice_get, Option, Some, None, ℤ, ◌+ℤ◌, unsigned_abs, ◌⊎◌, inl, inr, arith}
+use Rattle.std.proofs.Common.{◌≡◌, refl, sym, ◌∙◌, ap, subst, ℕ, zero, suc, ◌+◌, ◌%◌, ◌<◌, ◌≤◌, Bool, true, false, not, cond, eqb, ◌&&◌, ◌||◌, List, [], length, get_or, replicate, slice_get, Some, None, ℤ, ◌+ℤ◌, unsigned_abs, ◌⊎◌, inl, inr, arith}
 use Rattle.std.proofs.lemmas.Int.{ints}
 use Rattle.std.proofs.lemmas.Bool.{and_from, and_parts, cases_Bool, cases_lt, eqb-true, eq-eqb, not-true, or_cases, true≢false}
 use Rattle.std.proofs.lemmas.List.{get_or_default, get_or_past}

@@ -1,5 +1,5 @@
 -- A walk that is cut at even points of its own is split there, piece by piece.
-use Rattle.std.proofs.Common.{◌≡◌, refl, sym, ◌∙◌, ap, ap₂, subst, ℕ, zero, suc, ◌+◌, ◌-◌, ◌*◌, ◌/◌, ◌<◌, ◌≤◌, Bool, true, false, cond, List, [], ◌∷◌, ◌++◌, length, map, filter, take, drop, get_or, min, slice_range, ◌⊎◌, inl, inr, arith, length-drop}
+use Rattle.std.proofs.Common.{◌≡◌, refl, sym, ◌∙◌, ap, subst, ℕ, zero, suc, ◌+◌, ◌-◌, ◌*◌, ◌/◌, ◌<◌, ◌≤◌, Bool, true, false, cond, List, [], ◌∷◌, length, map, filter, take, drop, get_or, min, inl, inr, arith, length-drop}
 use Rattle.std.proofs.Math.Nat.{div-eq_of_lt, div-mul-le_self, mul-div_cancel_left, mul-le-mul_right}
 use Rattle.std.proofs.lemmas.Nat.{le-div}
 use Rattle.std.proofs.Math.Seq.{take-add}

@@ -1,21 +1,21 @@
 -- The least free walk between two nodes that stand is free between them.
-use Rattle.std.proofs.Common.{◌≡◌, refl, sym, ◌∙◌, ap, subst, ℕ, ◌<◌, Bool, true, false, not, ◌&&◌, ◌||◌, List, [], ◌∷◌, length, get_or, Option, Some, None, ◌⊎◌, inl, inr, arith}
+use Rattle.std.proofs.Common.{◌≡◌, sym, ◌∙◌, ap, subst, ℕ, true, false, not, ◌&&◌, List, [], length, get_or, Option, Some, ◌⊎◌, inl, inr}
 use Rattle.std.proofs.lemmas.Bool.{and_parts, or_cases, true≢false}
-use Rattle.std.specs.List.{filter_map, list_all, list_any}
+use Rattle.std.specs.List.{filter_map}
 use Rattle.map_base.specs.declared.ids.SegId.{SegId}
 use Rattle.graph_core.specs.declared.parts.GraphParts.{GraphParts}
 use Rattle.octi_grid.specs.declared.dir.Dir.{Dir}
 use Rattle.octi_grid.specs.declared.point.GridPoint.{GridPoint}
 use Rattle.octi_grid.specs.Ways.{are_one, doubled}
 use Rattle.octi_grid.specs.Walks.{doubled_of, end_point, end_port, start_port, PlainWalk}
-use Rattle.octi_grid.specs.Legal.{are_clockwise, are_distinct}
+use Rattle.octi_grid.specs.Legal.{are_clockwise}
 use Rattle.octi_grid.proofs.Members.{among_from, any_from, one_point, In}
 use Rattle.walk_search.specs.declared.ends.End.{End}
 use Rattle.walk_search.specs.Moves.{IsQuestion}
-use Rattle.walk_search.specs.Routes.{allows, inner_points, is_settled_end, route}
+use Rattle.walk_search.specs.Routes.{allows, inner_points, route}
 use Rattle.walk_search.proofs.Once.{route_once}
 use Rattle.segment_router.specs.Ports.{is_allowed, mask_of, stops_from, with_port}
-use Rattle.segment_router.specs.Routes.{end_at, is_settled, port_at_node}
+use Rattle.segment_router.specs.Routes.{end_at, port_at_node}
 use Rattle.segment_router.proofs.ClearNodes.{on_walk}
 use Rattle.segment_router.proofs.ClockLemmas.{allowed_port, spaced_clockwise, stops_ports}
 use Rattle.segment_router.proofs.RouteLemmas.{route_parts, IsRoute}

@@ -13,14 +13,14 @@ use Rattle.octi_grid.specs.Walks.{PlainWalk}
 use Rattle.octi_grid.proofs.Members.{any_at, any_from, false_from, In}
 use Rattle.grid_board.specs.declared.bounds.Bounds.{Bounds}
 use Rattle.segment_router.proofs.Places.{seg_at}
-use Rattle.run_laying.specs.Attempts.{attempted, attempted_on, has_node, inner_nodes, is_inner, is_on_runs, may_move, walk_beside, walks_in, without_runs, Attempt}
+use Rattle.run_laying.specs.Attempts.{attempted, attempted_on, has_node, inner_nodes, is_inner, is_on_runs, may_move, walks_in, without_runs, Attempt}
 use Rattle.run_laying.specs.Drawings.{IsOnBoard}
 use Rattle.run_laying.specs.Laying.{all_laid, Sketch}
 use Rattle.run_laying.specs.Runs.{AreBeside, AreOnce, AreSteps, IsFitting, IsRun, LeadsTo}
-use Rattle.run_laying.specs.Sketches.{is_standing, walk_in, IsEndOf, IsLegalSketch}
+use Rattle.run_laying.specs.Sketches.{is_standing, IsEndOf, IsLegalSketch}
 use Rattle.run_laying.proofs.Attempted.{all_laid_on, beside_off, AreLaidOn, HasWalk, IsClearFor}
 use Rattle.run_laying.proofs.Begun.{begun_legal, flag_at, left_walk, run_in, stands_from, walk_of}
-use Rattle.run_laying.proofs.RunFacts.{end_below, inner_of, inner_off, leads_from, leads_to, once_first, only_two, step_of, IsOnRun, IsOff}
+use Rattle.run_laying.proofs.RunFacts.{end_below, inner_of, inner_off, leads_from, leads_to, once_first, only_two, step_of}
 use Rattle.run_laying.proofs.Whole.{whole_legal, IsComplete}
 
 -- no segment leads from a node to itself

@@ -1,16 +1,13 @@
 -- Runs that are laid on legal sketches: what comes of it is legal, and everything beside them stays.
-use Rattle.std.proofs.Common.{◌≡◌, refl, sym, ◌∙◌, ap, subst, ℕ, zero, suc, ◌<◌, Bool, true, false, List, [], ◌∷◌, length, get_or, set, Option, Some, None, ◌⊎◌, inl, inr, arith, length-set, get_or-set_same, get_or-set_other}
-use Rattle.std.proofs.lemmas.Bool.{cases_eq, true≢false}
+use Rattle.std.proofs.Common.{◌≡◌, refl, sym, ◌∙◌, ap, subst, ℕ, zero, suc, ◌<◌, Bool, true, false, List, [], ◌∷◌, length, get_or, set, Some, None, inl, inr, arith, length-set, get_or-set_same, get_or-set_other}
 use Rattle.map_base.specs.declared.ids.NodeId.{NodeId}
 use Rattle.map_base.specs.declared.ids.SegId.{SegId}
 use Rattle.graph_core.specs.declared.parts.GraphParts.{GraphParts}
 use Rattle.graph_core.specs.Consistent.{IsConsistent}
-use Rattle.line_chains.specs.declared.chain.Chain.{Chain}
 use Rattle.line_chains.specs.declared.chain.ChainStep.{ChainStep}
 use Rattle.line_chains.specs.Chains.{end_after, last_seg}
-use Rattle.octi_grid.specs.Walks.{end_point, PlainWalk}
+use Rattle.octi_grid.specs.Walks.{PlainWalk}
 use Rattle.octi_grid.proofs.Members.{In}
-use Rattle.grid_board.specs.declared.bounds.Bounds.{Bounds}
 use Rattle.run_laying.specs.Attempts.{inner_nodes}
 use Rattle.run_laying.specs.Laying.{first_seg_of, from_low, with_piece, with_pieces, Sketch}
 use Rattle.run_laying.specs.Runs.{AreOnce, AreSteps}

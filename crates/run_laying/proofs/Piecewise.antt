@@ -1,5 +1,5 @@
 -- A run is laid piece by piece: each segment gets a part of a free walk, and what is left of that is a free walk beside it.
-use Rattle.std.proofs.Common.{◌≡◌, refl, sym, ◌∙◌, ap, ap₂, subst, ℕ, zero, suc, ◌<◌, Bool, true, false, cond, eqb, List, [], ◌∷◌, length, get_or, set, Option, Some, None, option_map, ◌⊎◌, inl, inr, arith}
+use Rattle.std.proofs.Common.{◌≡◌, refl, sym, ◌∙◌, ap, ap₂, subst, ℕ, ◌<◌, Bool, true, false, cond, eqb, List, [], length, get_or, set, Option, Some, None, option_map, ◌⊎◌, inl, inr}
 use Rattle.std.proofs.lemmas.Bool.{eq-eqb, ne_eqb, true≢false}
 use Rattle.std.proofs.lemmas.List.{set-get_or}
 use Rattle.std.specs.List.{cons_option, filter_map, list_all}
@@ -26,7 +26,7 @@ use Rattle.segment_router.proofs.SettledLemmas.{nowhere}
 use Rattle.run_laying.specs.Laying.{board_under, from_low, with_piece, Sketch}
 use Rattle.run_laying.specs.Runs.{LeadsTo, MeetAlone}
 use Rattle.run_laying.specs.Sketches.{is_standing, point_of_node, stood, walk_in, with_walk_of, IsEndOf, IsLegalSketch, IsMeeting}
-use Rattle.run_laying.proofs.Added.{added_legal, which_walk, walk_new, walk_other, AreClockwiseAt}
+use Rattle.run_laying.proofs.Added.{added_legal, which_walk, walk_other}
 use Rattle.run_laying.proofs.Cuts.{end_once, first_once, first_start_port, first_within, in_first, in_second, met_between, next_holds, no_turn_back, second_end_port, second_once, second_within, some_end, some_first, split_end, start_once, two_clockwise, IsSplit}
 use Rattle.run_laying.proofs.Shown.{stands_below}
 use Rattle.run_laying.proofs.Standing.{point_new, stands_new, still_stands, still_there, stood_legal, which_stands, IsOpen}

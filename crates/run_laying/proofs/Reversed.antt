@@ -1,5 +1,5 @@
 -- A walk from its end to its start: the same points, and the ports exchanged.
-use Rattle.std.proofs.Common.{◌≡◌, refl, sym, ◌∙◌, ap, ap₂, subst, Bool, true, ◌⊎◌, inl, inr, List, [], ◌∷◌, ◌++◌, map, reverse, Option, Some, None, slice_get, option_map, ℤ, pos, ◌+ℤ◌, arith}
+use Rattle.std.proofs.Common.{◌≡◌, refl, sym, ◌∙◌, ap, ap₂, subst, Bool, true, ◌⊎◌, inl, inr, List, [], ◌∷◌, ◌++◌, map, reverse, Some, slice_get, option_map, ℤ, pos, ◌+ℤ◌, arith}
 use Rattle.std.specs.List.{list_all}
 use Rattle.std.proofs.lemmas.Int.{ints}
 use Rattle.std.proofs.lemmas.List.{map-append, reverse-append}

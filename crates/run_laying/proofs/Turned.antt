@@ -1,5 +1,5 @@
 -- The walk of a segment that is walked from one of its ends: as it is, or from its end.
-use Rattle.std.proofs.Common.{◌≡◌, refl, sym, ◌∙◌, ap, subst, ℕ, ◌<◌, Bool, true, cond, eqb, List, [], length, get_or, Option, Some, None, ◌⊎◌, inl, inr, arith}
+use Rattle.std.proofs.Common.{◌≡◌, refl, sym, ◌∙◌, ap, subst, ℕ, ◌<◌, true, cond, [], length, get_or, Some, None, ◌⊎◌, inl, inr}
 use Rattle.std.proofs.lemmas.Bool.{cases_eq, eq-eqb, ne_eqb}
 use Rattle.std.specs.List.{filter_map, list_all}
 use Rattle.map_base.specs.declared.ids.NodeId.{NodeId}
@@ -21,7 +21,7 @@ use Rattle.segment_router.proofs.Places.{same_seg}
 use Rattle.run_laying.specs.Laying.{board_under, from_low, Sketch}
 use Rattle.run_laying.specs.Pieces.{reversed_walk}
 use Rattle.run_laying.specs.Runs.{LeadsTo}
-use Rattle.run_laying.specs.Sketches.{is_standing, point_of_node, walk_in, with_walk_of, IsEndOf, IsLegalSketch, IsMeeting}
+use Rattle.run_laying.specs.Sketches.{is_standing, point_of_node, walk_in, with_walk_of, IsEndOf, IsMeeting}
 use Rattle.run_laying.proofs.Added.{walk_new, walk_other, AreClockwiseAt, IsAddable}
 use Rattle.run_laying.proofs.Reversed.{back_doubled, back_end, back_end_port, back_once, back_start_port, back_within}
 

@@ -1,5 +1,5 @@
 -- A legal sketch in which all nodes stand and all segments have walks is a legal drawing.
-use Rattle.std.proofs.Common.{◌≡◌, refl, sym, ◌∙◌, ap, subst, ℕ, suc, ◌<◌, Bool, true, false, ◌⊎◌, inl, inr, List, [], ◌∷◌, length, get_or, replicate, Option, Some, None, arith}
+use Rattle.std.proofs.Common.{◌≡◌, sym, ◌∙◌, ap, ℕ, suc, ◌<◌, true, inl, inr, List, [], ◌∷◌, length, get_or, Option, Some, None, arith}
 use Rattle.std.proofs.lemmas.List.{length-replicate}
 use Rattle.std.specs.List.{filter_map, list_all}
 use Rattle.map_base.specs.declared.ids.SegId.{SegId}
@@ -9,15 +9,13 @@ use Rattle.line_chains.specs.Chains.{ends_of}
 use Rattle.octi_grid.specs.declared.point.GridPoint.{GridPoint}
 use Rattle.octi_grid.specs.Walks.{doubled_of, points_of, PlainWalk}
 use Rattle.octi_grid.proofs.Members.{all_from, among_from, In}
-use Rattle.grid_board.specs.declared.bounds.Bounds.{Bounds}
 use Rattle.grid_board.specs.Boards.{contains}
-use Rattle.drawing_weights.specs.Drawn.{IsDrawn}
 use Rattle.segment_router.specs.Underway.{IsUnderway}
 use Rattle.segment_router.proofs.LaidLemmas.{IsLaid, Meeting}
-use Rattle.segment_router.proofs.LegalRoutes.{all_kept, all_legal, AllThere, AreAll}
+use Rattle.segment_router.proofs.LegalRoutes.{all_kept, all_legal}
 use Rattle.run_laying.specs.Drawings.{IsOnBoard}
 use Rattle.run_laying.specs.Laying.{board_under, Sketch}
-use Rattle.run_laying.specs.Sketches.{is_standing, walk_in, IsLegalSketch, IsMeeting}
+use Rattle.run_laying.specs.Sketches.{is_standing, IsLegalSketch, IsMeeting}
 use Rattle.run_laying.proofs.Shown.{board_fits, node_shown, settled_there, taken_shown}
 
 -- all nodes stand, and all segments have walks

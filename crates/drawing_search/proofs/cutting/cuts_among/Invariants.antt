@@ -1,4 +1,4 @@
-use Rattle.std.proofs.Common.{◌≡◌, ◌+◌, ◌-◌, ◌*◌, ◌/◌, length, map, get_or}
+use Rattle.std.proofs.Common.{◌≡◌, ◌-◌, ◌*◌, ◌/◌, length, map, get_or}
 use Rattle.std.specs.List.{range_with_len}
 use Rattle.drawing_search.proofs.cutting.cuts_among.Given as goal
 

@@ -1,19 +1,13 @@
-use Rattle.std.proofs.Common.{◌≡◌, refl, ℕ, ◌+◌, ◌-◌, ◌<◌, ◌≤◌, List, [], ◌∷◌, ◌++◌, length, get_or, sym, ap, subst, ◌∙◌, arith}
+use Rattle.std.proofs.Common.{◌≡◌, ℕ, ◌<◌, ◌≤◌, List, ◌++◌, length, get_or, sym, ap, subst, ◌∙◌, arith}
 use Rattle.map_base.specs.declared.ids.NodeId.{NodeId}
-use Rattle.map_base.specs.declared.ids.SegId.{SegId}
-use Rattle.graph_core.specs.declared.parts.GraphParts.{GraphParts}
 use Rattle.line_chains.specs.declared.chain.Chain.{Chain}
-use Rattle.octi_grid.specs.declared.point.GridPoint.{GridPoint}
-use Rattle.octi_grid.specs.Walks.{PlainWalk}
 use Rattle.drawing_weights.specs.Scales.{scale_of}
-use Rattle.run_laying.specs.Laying.{Sketch}
 use Rattle.run_laying.specs.Runs.{IsRun}
-use Rattle.run_laying.specs.Sketches.{point_of_node}
 use Rattle.drawing_search.specs.Changes.{without_run, IsTakable}
 use Rattle.drawing_search.specs.Gains.{run_gain}
 use Rattle.drawing_search.specs.Lifting.{points_along, walks_along}
 use Rattle.drawing_search.proofs.GroupOf.{group_is}
-use Rattle.drawing_search.proofs.LiftedGroups.{group_lifted, least_begin, node_legal, node_less, node_lifted, node_stands, nodes_begin, run_less, run_lifted, run_ready}
+use Rattle.drawing_search.proofs.LiftedGroups.{node_legal, nodes_begin, run_less, run_lifted, run_ready}
 use Rattle.drawing_search.proofs.lifting.lift.Goals as goal
 
 -- the item of a loop over the runs of a group

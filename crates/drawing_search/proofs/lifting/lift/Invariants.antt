@@ -1,4 +1,3 @@
-use Rattle.std.proofs.Common.{◌≡◌}
 use Rattle.drawing_weights.specs.Scales.{scale_of}
 use Rattle.drawing_search.proofs.LiftedGroups.{AreLeastLifted, AreNodesLifted, AreRunsLifted}
 use Rattle.drawing_search.proofs.lifting.lift.Given as goal

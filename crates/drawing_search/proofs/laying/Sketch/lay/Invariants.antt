@@ -1,4 +1,4 @@
-use Rattle.std.proofs.Common.{◌≡◌, ◌+◌, ◌<◌, drop, length}
+use Rattle.std.proofs.Common.{◌≡◌, ◌<◌, drop, length}
 use Rattle.line_chains.specs.Chains.{end_of}
 use Rattle.run_laying.specs.Laying.{last_seg_of, with_pieces}
 use Rattle.run_laying.specs.Pieces.{pieces_of}

@@ -1,4 +1,4 @@
-use Rattle.std.proofs.Common.{◌≡◌, ◌<◌, Bool, true, false, cond, sym, subst, arith}
+use Rattle.std.proofs.Common.{◌≡◌, Bool, true, false, cond, sym, subst, arith}
 use Rattle.std.specs.List.{list_all}
 use Rattle.octi_grid.specs.declared.point.GridPoint.{GridPoint}
 use Rattle.octi_grid.specs.Walks.{points_of, PlainWalk}

@@ -1,4 +1,4 @@
-use Rattle.std.proofs.Common.{◌≡◌, List, map, take}
+use Rattle.std.proofs.Common.{◌≡◌, map, take}
 use Rattle.std.specs.Prelude.{vec_items}
 use Rattle.drawing_weights.specs.Scales.{joined_pairs}
 use Rattle.drawing_search.proofs.pairs.Pairs.of.Given as goal

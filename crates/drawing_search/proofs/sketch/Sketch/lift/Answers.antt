@@ -1,6 +1,6 @@
-use Rattle.std.proofs.Common.{◌≡◌, ◌∙◌, ap, sym}
+use Rattle.std.proofs.Common.{◌≡◌, ◌∙◌, ap}
 use Rattle.octi_grid.specs.declared.point.GridPoint.{GridPoint}
-use Rattle.grid_board.specs.Boards.{contains, parts_of, without_node, BoardParts}
+use Rattle.grid_board.specs.Boards.{contains, parts_of, without_node}
 use Rattle.run_laying.specs.Sketches.{point_of_node}
 use Rattle.drawing_search.proofs.OnSketches.{inside_kept, lifted_shown, lifted_view}
 use Rattle.drawing_search.proofs.sketch.Sketch.lift.Goals as goal

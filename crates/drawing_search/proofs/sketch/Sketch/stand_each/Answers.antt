@@ -1,4 +1,4 @@
-use Rattle.std.proofs.Common.{◌≡◌, ℕ, ◌+◌, ◌<◌, List, pos, length, fold, get_or, drop, sym, ap, subst, ◌∙◌}
+use Rattle.std.proofs.Common.{ℕ, ◌+◌, ◌<◌, List, pos, length, fold, get_or, drop, sym, ap, subst, ◌∙◌}
 use Rattle.std.proofs.lemmas.List.{at_drop_all, at_drop_more, drop_more}
 use Rattle.map_base.specs.declared.ids.NodeId.{NodeId}
 use Rattle.octi_grid.specs.declared.point.GridPoint.{GridPoint}
