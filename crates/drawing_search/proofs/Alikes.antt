@@ -65,7 +65,7 @@ module _ (j k : Sketch) (a : AreAlike j k) where
   same_standing : standing_points j ≡ standing_points k
   same_standing = ap (λ fs. filter_map standing_point (zip fs j.points)) a.stand ∙ same_points k.stand j.points k.points a.points_each a.points
 
-  shown : Bounds → List GridPoint → List (Option PlainWalk) → BoardParts
+  abbrev shown : Bounds → List GridPoint → List (Option PlainWalk) → BoardParts
   shown bounds ps ws = record { bounds = bounds; is_node = λ p. list_any (λ q. are_one q p) ps; is_taken = λ d. list_any (has_doubled d) ws }
 
   pub same_board : board_of j ≡ board_of k

@@ -10,7 +10,7 @@ use Rattle.run_laying.specs.Attempts.{has_node}
 use Rattle.line_straightening.specs.Groups.{ends_at, places_at, places_at_both, run_at}
 use Rattle.line_straightening.specs.Straightening.{runs_at}
 
-none : Chain
+abbrev none : Chain
 none = record { from = record { 0 = 0 }; steps = [] }
 
 -- of places from some number on, those at which a test passes, and what stands there

@@ -107,11 +107,11 @@ other_there graph fit n s node on two = by_round (round_of graph n) refl (round_
     by_round (a ∷ b ∷ []) is once (inr (inr none)) e = absurd none
 
 -- the other one is one
-first_of : SegId → List SegId → SegId
+abbrev first_of : SegId → List SegId → SegId
 first_of s [] = s
 first_of s (x ∷ xs) = x
 
-second_of : SegId → List SegId → SegId
+abbrev second_of : SegId → List SegId → SegId
 second_of s [] = s
 second_of s (x ∷ []) = s
 second_of s (x ∷ y ∷ ys) = y
