@@ -59,5 +59,5 @@ loop-i-preserved c =
 
 pub returns : goal.returns
 returns c =
-    let at_end : c.loop-i.i ≡ c.args.to = omega (arith, c.loop-i-test.false, c.loop-i.auto.i-end, c.requires.order) in
+    let at_end : c.loop-i.i ≡ c.args.to = omega (arith, c.loop-i-test.false, c.loop-i.auto.i-end (omega (arith, c.requires.order)), c.requires.order) in
     c.loop-i.invariant ∙ ap (piece_along c.args.self.now.points.items c.args.self.now.steps.items c.args.from) at_end

@@ -84,5 +84,5 @@ loop-i-preserved c =
 
 pub returns : goal.returns
 returns c =
-    let at_end : c.args.to - c.loop-i.i ≡ c.args.from = omega (arith, c.loop-i-test.false, c.loop-i.auto.i-end, c.requires.order) in
+    let at_end : c.args.to - c.loop-i.i ≡ c.args.from = omega (arith, c.loop-i-test.false, c.loop-i.auto.i-end (omega (arith, c.requires.order)), c.requires.order) in
     c.loop-i.invariant ∙ ap (λ n. reversed_walk (piece_along c.args.self.now.points.items c.args.self.now.steps.items n c.args.to)) at_end
