@@ -1,0 +1,22 @@
+use Rattle.std.proofs.Common.{◌+◌, ◌<◌, get_or, arith}
+use Rattle.std.proofs.lemmas.List.{at_drop_all}
+use Rattle.line_chains.specs.declared.chain.ChainStep.{ChainStep}
+use Rattle.drawing_weights.specs.Scales.{scale_of}
+use Rattle.drawing_search.specs.Gains.{steps_gain}
+use Rattle.drawing_search.proofs.FieldFacts.{gain_more}
+use Rattle.drawing_search.proofs.gains.Field.steps_gain.Goals as goal
+
+abbrev none : ChainStep
+none = record { seg = record { 0 = 0 }; to = record { 0 = 0 } }
+
+pub loop-i-preserved : goal.loop-i-preserved
+loop-i-preserved c =
+    let f = c.args.self in
+    let more = gain_more (scale_of f.by) f.graph.now f.first.now c.args.sketch.now c.args.steps.now c.loop-i.i none c.loop-i-test.true in
+    (omega (arith, c.loop-i.invariant.0, c.step_gain.ensures.gain, more), omega (arith, c.loop-i.invariant.1, c.step_gain.ensures.small))
+
+pub returns-clause-gain : goal.returns-clause-gain
+returns-clause-gain c =
+    let f = c.args.self in
+    let all = at_drop_all (steps_gain (scale_of f.by) f.graph.now f.first.now c.args.sketch.now) c.args.steps.now c.loop-i.i c.loop-i-test.false in
+    omega (arith, c.loop-i.invariant.0, all)
