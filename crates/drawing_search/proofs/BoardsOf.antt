@@ -1,5 +1,5 @@
 -- How the board of a sketch changes.
-use Rattle.std.proofs.Common.{◌≡◌, refl, sym, ◌∙◌, ap, subst, ℕ, zero, suc, ◌<◌, Bool, true, false, not, ◌&&◌, ◌||◌, List, [], ◌∷◌, length, get_or, set, Option, Some, None, ◌⊎◌, inl, inr, arith, length-set, get_or-set_same, get_or-set_other}
+use Rattle.std.proofs.Common.{◌≡◌, refl, sym, ◌∙◌, ap, subst, ℕ, zero, suc, ◌<◌, Bool, true, false, not, ◌&&◌, ◌||◌, List, [], ◌∷◌, length, get_or, replicate, set, Option, Some, None, ◌⊎◌, inl, inr, arith, length-set, get_or-set_same, get_or-set_other}
 use Rattle.std.proofs.lemmas.Bool.{and_from, and_parts, cases_eq, not-true, true≢false}
 use Rattle.std.specs.List.{filter_map, list_any, zip}
 use Rattle.map_base.specs.declared.ids.NodeId.{NodeId}
@@ -10,10 +10,12 @@ use Rattle.octi_grid.specs.Ways.{are_one}
 use Rattle.octi_grid.specs.Walks.{doubled_of, PlainWalk}
 use Rattle.octi_grid.specs.Legal.{is_among}
 use Rattle.octi_grid.proofs.Members.{any_from, are_one_from, are_one-refl, one_point, same_test}
-use Rattle.grid_board.specs.Boards.{with_node, with_walk, without_node}
+use Rattle.grid_board.specs.declared.bounds.Bounds.{Bounds}
+use Rattle.grid_board.specs.Boards.{empty_board, with_node, with_walk, without_node}
 use Rattle.segment_router.specs.Routes.{has_doubled}
 use Rattle.run_laying.specs.Laying.{board_of, standing_point, standing_points, Sketch}
 use Rattle.run_laying.specs.Sketches.{is_standing, lifted, point_of_node, stood, walk_in, with_walk_of, IsLegalSketch}
+use Rattle.drawing_search.specs.Shown.{bare_sketch}
 use Rattle.run_laying.proofs.Shown.{in_standing, node_shown, shown_node, stands_below}
 
 -- ---- nodes
@@ -111,3 +113,16 @@ board_walked k s w below e = λ i. record {
   is_node = (board_of k).is_node;
   is_taken = λ d. taken_more k.walks s.0 w d below e i;
 }
+
+-- ---- nothing yet
+
+none_stand : (ps : List GridPoint) (x : GridPoint) → list_any (λ (q : GridPoint). are_one q x) (filter_map standing_point (zip (replicate (length ps) false) ps)) ≡ false
+none_stand [] x = refl
+none_stand (p ∷ ps) x = none_stand ps x
+
+none_taken : (n : ℕ) (d : GridPoint) → list_any (has_doubled d) (replicate n (let o : Option PlainWalk = None in o)) ≡ false
+none_taken zero d = refl
+none_taken (suc n) d = none_taken n d
+
+pub board_bare : (bounds : Bounds) (ps : List GridPoint) (n : ℕ) → board_of (bare_sketch bounds ps n) ≡ empty_board bounds
+board_bare bounds ps n = λ i. record { bounds = bounds; is_node = λ x. none_stand ps x i; is_taken = λ d. none_taken n d i }
