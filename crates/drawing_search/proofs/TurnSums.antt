@@ -105,13 +105,26 @@ turns_back (d ∷ e ∷ ds) =
 
 -- ---- a way that turns less than from its first direction to its last one there is none
 
--- the turn from one direction over another is no less than the turn straight on
+-- the turn from one direction over another is no less than the turn straight on: the one way round, or the other
+on_round : (x y z : ℕ) → x ≤ 7 → y ≤ 7 → z ≤ 7 → (z + 8 - x) % 8 ≤ (y + 8 - x) % 8 + (z + 8 - y) % 8
+on_round x y z h k l = omega arith
+
+back_and_on : (x y z : ℕ) → x ≤ 7 → y ≤ 7 → z ≤ 7 → min ((z + 8 - x) % 8) ((x + 8 - z) % 8) ≤ (x + 8 - y) % 8 + (z + 8 - y) % 8
+back_and_on x y z h k l = omega arith
+
+on_and_back : (x y z : ℕ) → x ≤ 7 → y ≤ 7 → z ≤ 7 → min ((z + 8 - x) % 8) ((x + 8 - z) % 8) ≤ (y + 8 - x) % 8 + (y + 8 - z) % 8
+on_and_back x y z h k l = omega arith
+
+least_of_four : (m n a b c d : ℕ) → m ≤ a + c → n ≤ d + b → min m n ≤ b + c → min m n ≤ a + d → min m n ≤ min a b + min c d
+least_of_four m n a b c d one two three four = omega (arith, one, two, three, four)
+
 pub turn_shorter : (a b c : Dir) → turn_between a c ≤ turn_between a b + turn_between b c
-turn_shorter a b c = angles (number_of a) (number_of b) (number_of c) (number_small a) (number_small b) (number_small c)
-  where
-    angles : (x y z : ℕ) → x ≤ 7 → y ≤ 7 → z ≤ 7
-        → min ((z + 8 - x) % 8) ((x + 8 - z) % 8) ≤ min ((y + 8 - x) % 8) ((x + 8 - y) % 8) + min ((z + 8 - y) % 8) ((y + 8 - z) % 8)
-    angles x y z h k l = omega arith
+turn_shorter a b c =
+    let x = number_small a in
+    let y = number_small b in
+    let z = number_small c in
+    least_of_four (clockwise_from a c) (clockwise_from c a) (clockwise_from a b) (clockwise_from b a) (clockwise_from b c) (clockwise_from c b) (on_round (number_of a) (number_of b) (number_of c) x y z)
+    (on_round (number_of c) (number_of b) (number_of a) z y x) (back_and_on (number_of a) (number_of b) (number_of c) x y z) (on_and_back (number_of a) (number_of b) (number_of c) x y z)
 
 turn_itself : (d : Dir) → turn_between d d ≡ 0
 turn_itself dir.N = refl
