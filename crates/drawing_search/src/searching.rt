@@ -1,6 +1,6 @@
 //! Passes over groups of attempts.
 
-ghost use Rattle.std.specs.Prelude.{◌≡◌, ◌≤◌, ◌<◌, ◌^◌, length, All, IfOk, true};
+ghost use Rattle.std.specs.Prelude.{◌≡◌, ◌≤◌, ◌^◌, length, All, IfOk, true};
 ghost use Rattle.std.specs.List.{list_all};
 ghost use Rattle.graph_core.specs.Consistent.{IsConsistent};
 ghost use Rattle.octi_grid.specs.Legal.{is_even};
@@ -63,7 +63,6 @@ pub fn search(
     requires fitting { All (IsFitting graph.now) (attempts_of groups.now) }
     requires apart { All (λ (g : Group). AreApart g.nodes) groups.now }
     requires lengths { All (λ (g : Group). g.lengths ≤ 4) groups.now }
-    requires some { 0 < at_once }
     ensures { IfOk result (IsSearched graph.now (scale_of by.entry) margin (attempts_of groups.now) at_once most drawing.walks) }
 {
     let walks = drawing.walks.into_vec();
