@@ -102,6 +102,7 @@ lifted_alike scale graph first g whole j k l a h = record {
   can = λ x b. h.can x (alike_on x j k b a);
   back = λ x b. h.back x (alike_on x j k b a);
   rest = h.rest ∙ sym (same_weight j k a scale graph first);
+  light = h.light;
   each = h.each;
   least = have_least scale graph j k a.walks g.runs l.least.items h.least;
   small = h.small;

@@ -8,7 +8,7 @@ mod TakenOff
 mod OnSketches
 -- walks step by step, and runs that are laid along a walk that is cut
 mod Steps
-mod Ranges
+pub mod Ranges
 mod Farther
 mod WalksOff
 mod RunEnds
@@ -17,6 +17,7 @@ mod Laid
 mod LaySteps
 -- runs and nodes that are taken off and put back; drawings that differ where nodes lie that don't stand
 pub mod Takable
+mod Nearby
 mod PutBack
 mod TakenBack
 mod Alikes
@@ -36,6 +37,7 @@ mod PricedRuns
 mod Bounded
 mod RunBounds
 mod LeastTurning
+mod LeastSteps
 mod Spaced
 pub mod LaidAll
 mod LaidBack
@@ -47,6 +49,7 @@ mod OnWalks
 mod Moving
 mod Attempting
 mod AttemptCases
+mod Offs
 mod TriedGroups
 mod GroupOf
 mod Passes

@@ -43,6 +43,7 @@ pub record AreRunsLifted (scale : Scale) (graph : GraphParts) (first : List Grid
   pub inner : l.inner.items ≡ flat_map (λ (c : Chain). points_along old c.steps) (take i runs)
   pub moved : l.moved.items ≡ []
   pub rest : l.rest ≡ sketch_weight scale graph first k
+  pub light : l.rest ≤ sketch_weight scale graph first old
   pub least : l.least.items ≡ []
 
 -- and so many nodes
@@ -52,6 +53,7 @@ pub record AreNodesLifted (scale : Scale) (graph : GraphParts) (first : List Gri
   pub inner : l.inner.items ≡ flat_map (λ (c : Chain). points_along old c.steps) runs
   pub moved : l.moved.items ≡ map (λ (n : NodeId). (n, point_of_node old n.0)) (take i nodes)
   pub rest : l.rest ≡ sketch_weight scale graph first k
+  pub light : l.rest ≤ sketch_weight scale graph first old
   pub least : l.least.items ≡ []
 
 -- all of it is off, and so many runs have their bounds
@@ -61,6 +63,7 @@ pub record AreLeastLifted (scale : Scale) (graph : GraphParts) (first : List Gri
   pub inner : l.inner.items ≡ flat_map (λ (c : Chain). points_along old c.steps) runs
   pub moved : l.moved.items ≡ map (λ (n : NodeId). (n, point_of_node old n.0)) nodes
   pub rest : l.rest ≡ sketch_weight scale graph first k
+  pub light : l.rest ≤ sketch_weight scale graph first old
   pub each : length l.least.items ≡ length (take i runs)
   pub least : HaveLeast scale graph k (take i runs) l.least.items
   pub small : All IsSmallLeast l.least.items
@@ -70,6 +73,17 @@ module _ (graph : GraphParts) (fit : IsConsistent graph) (old : Sketch) (h : IsL
   weigh k = sketch_weight scale graph first k
 
   -- ---- runs
+
+  pub runs_begin : (k : Sketch) (l : Lifted) → k ≡ old → l.walks.items ≡ [] → l.inner.items ≡ [] → l.moved.items ≡ [] → l.rest ≡ sketch_weight scale graph first old → l.least.items ≡ [] → AreRunsLifted scale graph first old runs 0 k l
+  runs_begin k l is walks inner moved rest least = record {
+    sketch = is;
+    walks = walks;
+    inner = inner;
+    moved = moved;
+    rest = rest ∙ ap (sketch_weight scale graph first) (sym is);
+    light = omega (arith, rest);
+    least = least;
+  }
 
   module _ (i : ℕ) (d : Chain) (below : i < length runs) (k : Sketch) (l : Lifted) (a : AreRunsLifted scale graph first old runs i k l) where
     -- the next one may be
@@ -97,6 +111,7 @@ module _ (graph : GraphParts) (fit : IsConsistent graph) (old : Sketch) (h : IsL
           ∙ ap (flat_map (λ (c : Chain). points_along old c.steps)) (sym (take_more runs i d below));
       moved = moved ∙ a.moved;
       rest = let less = run_less in let there = ap (sketch_weight scale graph first) is in omega (arith, less, there, rest, a.rest);
+      light = omega (arith, rest, a.light);
       least = least ∙ a.least;
     }
 
@@ -112,6 +127,7 @@ module _ (graph : GraphParts) (fit : IsConsistent graph) (old : Sketch) (h : IsL
     inner = a.inner ∙ ap (flat_map (λ (c : Chain). points_along old c.steps)) all;
     moved = a.moved;
     rest = a.rest;
+    light = a.light;
     least = a.least;
   }
     where
@@ -148,6 +164,7 @@ module _ (graph : GraphParts) (fit : IsConsistent graph) (old : Sketch) (h : IsL
           ∙ ap₂ (λ (xs : List (NodeId × GridPoint)) (p : GridPoint). xs ++ (n, p) ∷ []) a.moved same_point
           ∙ sym (map_more (λ (m : NodeId). (m, point_of_node old m.0)) nodes i d below);
       rest = let less = node_less in let there = ap (sketch_weight scale graph first) is in omega (arith, less, there, rest, a.rest);
+      light = omega (arith, rest, a.light);
       least = least ∙ a.least;
     }
 
@@ -160,6 +177,7 @@ module _ (graph : GraphParts) (fit : IsConsistent graph) (old : Sketch) (h : IsL
     inner = a.inner;
     moved = a.moved ∙ ap (map (λ (n : NodeId). (n, point_of_node old n.0))) all;
     rest = a.rest;
+    light = a.light;
     each = ap length a.least;
     least = tt;
     small = subst (All IsSmallLeast) (sym a.least) (λ k d below. absurd (omega (arith, below)));
@@ -176,6 +194,7 @@ module _ (graph : GraphParts) (fit : IsConsistent graph) (old : Sketch) (h : IsL
     inner = inner ∙ a.inner;
     moved = moved ∙ a.moved;
     rest = rest ∙ a.rest;
+    light = omega (arith, rest, a.light);
     each = let one = length-append l.least.items (x ∷ []) in let more = ap length least in let front = ap length (take_more runs i d below) ∙ length-append (take i runs) (get_or runs i d ∷ []) in omega (arith, one, more, front, a.each);
     least =
         subst (λ (cs : List Chain). HaveLeast scale graph k cs m.least.items) (sym (take_more runs i d below))
@@ -191,6 +210,7 @@ module _ (graph : GraphParts) (fit : IsConsistent graph) (old : Sketch) (h : IsL
     can = λ j same. of_parts (λ (ms is : List (NodeId × GridPoint)) (ws : List (SegId × PlainWalk)). CanPutBack j ms is ws) (can_put_back graph fit old h whole nodes runs g j (subst (AreAlike j) a.sketch same));
     back = λ j same. of_parts (λ (ms is : List (NodeId × GridPoint)) (ws : List (SegId × PlainWalk)). put_back j ms is ws ≡ old) (put_back_is graph fit old h whole nodes runs g j (subst (AreAlike j) a.sketch same));
     rest = a.rest;
+    light = a.light;
     each = a.each ∙ ap length (all ∙ sym same_runs);
     least = subst (λ (cs : List Chain). HaveLeast scale graph k cs l.least.items) (all ∙ sym same_runs) a.least;
     small = a.small;

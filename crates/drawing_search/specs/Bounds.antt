@@ -1,5 +1,5 @@
 -- Lower bounds of runs, as they are kept.
-use Rattle.std.specs.Prelude.{◌≡◌, ℕ, ◌+◌, ◌*◌, ◌≤◌, ◌^◌, ◌==◌, min, List, [], ◌∷◌, map, fold, if◌then◌else◌, Option, Some, None, slice_index, slice_index_or}
+use Rattle.std.specs.Prelude.{◌≡◌, ℕ, ◌+◌, ◌*◌, ◌≤◌, ◌^◌, ◌==◌, min, List, [], ◌∷◌, length, map, fold, if◌then◌else◌, Option, Some, None, slice_index, slice_index_or}
 use Rattle.std.specs.Int.{bit_at}
 use Rattle.std.specs.List.{range_with_len}
 use Rattle.map_base.specs.declared.ids.NodeId.{NodeId}
@@ -24,8 +24,9 @@ pub record IsLeastOf (scale : Scale) (graph : GraphParts) (k : Sketch) (c : Chai
   pub price : l.per_turn ≡ turn_price scale graph c.steps
   pub free : l.free_turns ≡ 4 * free_nodes scale graph c.steps
 
--- and how large they are at most
+-- how many they are, and how large at most
 pub record IsSmallLeast (l : LeastTurns) : Type 0 where
+  pub each : length l.by ≡ 9
   pub by : (k : ℕ) → slice_index l.by k ≤ never
   pub price : l.per_turn ≤ 101
   pub free : l.free_turns ≤ 80000

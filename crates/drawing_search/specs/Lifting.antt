@@ -1,5 +1,5 @@
 -- What a group of attempts takes off the board.
-use Rattle.std.specs.Prelude.{◌≡◌, ℕ, List, length, map, fold, All, Option, Some, None, option_map}
+use Rattle.std.specs.Prelude.{◌≡◌, ◌≤◌, ℕ, List, length, map, fold, All, Option, Some, None, option_map}
 use Rattle.std.specs.List.{filter_map}
 use Rattle.map_base.specs.declared.ids.NodeId.{NodeId}
 use Rattle.map_base.specs.declared.ids.SegId.{SegId}
@@ -50,6 +50,7 @@ pub record IsLifted (scale : Scale) (graph : GraphParts) (first : List GridPoint
   pub can : (k : Sketch) → AreAlike k new → CanPutBack k l.moved.items l.inner.items l.walks.items
   pub back : (k : Sketch) → AreAlike k new → put_back k l.moved.items l.inner.items l.walks.items ≡ old
   pub rest : l.rest ≡ sketch_weight scale graph first new
+  pub light : l.rest ≤ sketch_weight scale graph first old
   pub each : length l.least.items ≡ length g.runs
   pub least : HaveLeast scale graph new g.runs l.least.items
   pub small : All IsSmallLeast l.least.items

@@ -1,8 +1,10 @@
 //! What runs add to the weight of a drawing in the making.
 
-ghost use Rattle.std.specs.Prelude.{◌≡◌, ◌*◌, ◌<◌, ◌≤◌, ◌^◌, length, true};
+ghost use Rattle.std.specs.Prelude.{◌≡◌, ◌*◌, ◌<◌, ◌≤◌, ◌^◌, length, true, All};
 ghost use Rattle.drawing_weights.specs.Scales.{apart_weight_by, scale_of, turn_over};
 ghost use Rattle.grid_board.specs.Points.{is_near};
+ghost use Rattle.map_base.specs.declared.ids.NodeId.{NodeId};
+ghost use Rattle.run_laying.specs.Attempts.{inner_nodes};
 ghost use Rattle.run_laying.specs.Runs.{IsRun};
 ghost use Rattle.run_laying.specs.Sketches.{is_standing, IsLegalSketch};
 ghost use Rattle.drawing_search.specs.Gains.{first_point, node_weight_in, run_gain, segment_weight, step_gain, steps_gain, turn_by, turn_if, turn_in, turns_by, turns_from, AreOnGraph, IsField};
@@ -43,6 +45,7 @@ impl<'a> Field<'a> {
         requires field { IsField self }
         requires legal { IsLegalSketch self.graph.now sketch.now }
         requires run { IsRun self.graph.now run.now }
+        requires inner { All (λ (n : NodeId). is_standing sketch.now n.0 ≡ true) (inner_nodes run.now.steps) }
         ensures gain { result ≡ run_gain (scale_of self.entry.by) self.entry.graph.now self.entry.first.now sketch.now run.now }
         ensures small { result ≤ 2 ^ 56 }
     {
@@ -58,6 +61,7 @@ impl<'a> Field<'a> {
         requires field { IsField self }
         requires legal { IsLegalSketch self.graph.now sketch.now }
         requires steps { AreOnGraph self.graph.now steps.now }
+        requires inner { All (λ (n : NodeId). is_standing sketch.now n.0 ≡ true) (inner_nodes steps.now) }
         requires few { length steps.now ≤ 20000 }
         ensures gain { result ≡ steps_gain (scale_of self.entry.by) self.entry.graph.now self.entry.first.now sketch.now steps.now }
         ensures small { result ≤ 2 ^ 55 }
@@ -75,6 +79,7 @@ impl<'a> Field<'a> {
         requires legal { IsLegalSketch self.graph.now sketch.now }
         requires segment { step.seg.0 < length self.graph.now.ends }
         requires node { step.to.0 < length self.graph.now.kinds }
+        requires inner { is_inner ≡ true → is_standing sketch.now step.to.0 ≡ true }
         ensures gain { result ≡ step_gain (scale_of self.entry.by) self.entry.graph.now self.entry.first.now sketch.now step is_inner }
         ensures small { result ≤ 2 ^ 40 }
     {

@@ -7,7 +7,7 @@ ghost use Rattle.run_laying.specs.Runs.{IsRun};
 ghost use Rattle.run_laying.specs.Sketches.{is_standing, IsLegalSketch};
 ghost use Rattle.walk_search.specs.Moves.{direction};
 ghost use Rattle.walk_search.specs.Reaching.{reach_of};
-ghost use Rattle.drawing_search.specs.Gains.{IsField};
+ghost use Rattle.drawing_search.specs.Gains.{AreOnGraph, IsField};
 ghost use Rattle.drawing_search.specs.Least.{diagonal, free_nodes, ports_for, straight_way, turn_price, turns_at_least};
 ghost use Rattle.drawing_search.specs.Bounds.{overs_by, with_first_by, with_last_by, with_walk_by, AreOvers, IsLeastOf, IsSmallLeast, IsSmallOver};
 
@@ -46,7 +46,7 @@ impl LeastTurns {
     fn turns_between(self, from: GridPoint, to: GridPoint) -> u64
         ensures { result ≡ slice_index self.by (straight_way from to) }
     {
-        self.by[usize::from(straight_way(from, to))]
+        self.by[straight_way(from, to)]
     }
 
     /// What the walk of the run may cost between two points at most where the run may add so much, which is no less than it
@@ -70,14 +70,14 @@ impl LeastTurns {
         requires small { IsSmallLeast self.old }
         requires overs { IsSmallOver overs }
         requires to { All IsSmallOver to.now }
-        ensures value { self.new ≡ with_first_by self.old first overs.entry to.now }
+        ensures value { self.new ≡ with_first_by self.old first overs to.now }
         ensures small { IsSmallLeast self.new }
     {
         let Some(here) = overs else {
             return;
         };
-        for i in 0..8u8 {
-            self.with_last(first, here, direction(i), to[usize::from(i)]);
+        for i in 0..8 {
+            self.with_last(first, here, direction(i), to[i]);
         }
     }
 
@@ -86,7 +86,7 @@ impl LeastTurns {
         requires small { IsSmallLeast self.old }
         requires here { here ≤ 2 ^ 39 }
         requires overs { IsSmallOver overs }
-        ensures value { self.new ≡ with_last_by self.old first here port overs.entry }
+        ensures value { self.new ≡ with_last_by self.old first here port overs }
         ensures small { IsSmallLeast self.new }
     {
         if let Some(there) = overs {
@@ -102,9 +102,9 @@ impl LeastTurns {
         ensures value { self.new ≡ with_walk_by self.old first last overs }
         ensures small { IsSmallLeast self.new }
     {
-        for way in 0..9u8 {
+        for way in 0..9 {
             let weight = overs + self.per_turn * turns_at_least(first, last, way);
-            self.by[usize::from(way)] = self.by[usize::from(way)].min(weight);
+            self.by[way] = self.by[way].min(weight);
         }
     }
 }
@@ -133,8 +133,8 @@ impl<'a> Field<'a> {
             per_turn: self.turn_price(steps),
             free_turns: 4 * self.free_nodes(steps),
         };
-        for i in 0..8u8 {
-            least.with_first(direction(i), from[usize::from(i)], &to);
+        for i in 0..8 {
+            least.with_first(direction(i), from[i], &to);
         }
         Ok(least)
     }
@@ -157,8 +157,8 @@ impl<'a> Field<'a> {
     {
         let allowed = sketch.ports_for(alloc, self.graph, n, s)?;
         let mut overs = [None; 8];
-        for i in 0..8u8 {
-            overs[usize::from(i)] = self.over_by(sketch, n, s, allowed, direction(i));
+        for i in 0..8 {
+            overs[i] = self.over_by(sketch, n, s, allowed, direction(i));
         }
         Ok(overs)
     }
@@ -184,6 +184,7 @@ impl<'a> Field<'a> {
     /// over.
     fn turn_price(self, steps: &[ChainStep]) -> u64
         requires field { IsField self }
+        requires steps { AreOnGraph self.graph.now steps.now }
         requires some { 0 < length steps.now }
         ensures price { result ≡ turn_price (scale_of self.entry.by) self.entry.graph.now steps.now }
         ensures small { result ≤ 101 }
@@ -200,6 +201,7 @@ impl<'a> Field<'a> {
     /// How many of the nodes between the ends of a run no line goes over.
     fn free_nodes(self, steps: &[ChainStep]) -> u64
         requires field { IsField self }
+        requires steps { AreOnGraph self.graph.now steps.now }
         ensures count { result ≡ free_nodes (scale_of self.entry.by) self.entry.graph.now steps.now }
         ensures small { result ≤ length steps.now }
     {
@@ -214,7 +216,7 @@ impl<'a> Field<'a> {
 }
 
 /// The direction of a number, clockwise from north.
-pub(crate) fn direction(number: u8) -> Dir
+pub(crate) fn direction(number: usize) -> Dir
     requires { number < 8 }
     ensures { result ≡ direction number }
 {
@@ -232,12 +234,12 @@ pub(crate) fn direction(number: u8) -> Dir
 
 /// How many turns of 45 degrees a walk makes at least that leaves by one direction, comes in another, and ends where a
 /// straight way in the direction of a number leads, or none.
-fn turns_at_least(first: Dir, last: Dir, straight: u8) -> u64
+fn turns_at_least(first: Dir, last: Dir, straight: usize) -> u64
     ensures value { result ≡ turns_at_least first last straight }
     ensures small { result ≤ 4 }
 {
     let between = u64::from(turn_cost(first, last));
-    if first.index() == straight && last.index() == straight {
+    if usize::from(first.index()) == straight && usize::from(last.index()) == straight {
         between
     } else {
         between.max(1)
@@ -245,7 +247,7 @@ fn turns_at_least(first: Dir, last: Dir, straight: u8) -> u64
 }
 
 /// The number of the direction in which a straight way leads from one point to another; 8 where none does.
-fn straight_way(from: GridPoint, to: GridPoint) -> u8
+fn straight_way(from: GridPoint, to: GridPoint) -> usize
     ensures value { result ≡ straight_way from to }
     ensures small { result ≤ 8 }
 {
@@ -264,7 +266,7 @@ fn straight_way(from: GridPoint, to: GridPoint) -> u8
 }
 
 /// The number of a diagonal direction.
-fn diagonal(is_east: bool, is_north: bool) -> u8
+fn diagonal(is_east: bool, is_north: bool) -> usize
     ensures value { result ≡ diagonal is_east is_north }
     ensures small { result ≤ 8 }
 {

@@ -65,6 +65,7 @@ pub fn search(
     requires lengths { All (λ (g : Group). g.lengths ≤ 4) groups.now }
     ensures { IfOk result (IsSearched graph.now (scale_of by.entry) margin (attempts_of groups.now) at_once most drawing.walks) }
 {
+    let _nodes = graph.nodes();
     let walks = drawing.walks.into_vec();
     let first = points_of(alloc, graph, &walks)?;
     let pairs = Pairs::of(alloc, graph)?;
@@ -90,11 +91,11 @@ pub fn search(
             break;
         }
     }
-    searched(alloc, search, before)
+    outcome_of(alloc, search, before)
 }
 
 /// What a search came to.
-fn searched(alloc: Global, search: Search, before: u64) -> Result<Searched, NoMemory>
+fn outcome_of(alloc: Global, search: Search, before: u64) -> Result<Searched, NoMemory>
     ensures drawing { IfOk result (λ s. s.drawing.walks ≡ walks_of search.sketch) }
     ensures made { IfOk result (λ s. s.made ≡ search.made) }
     ensures before { IfOk result (λ s. s.before ≡ before) }

@@ -109,7 +109,7 @@ impl Search {
         requires field { IsField field }
         requires count { vector.count ≤ 8 }
         requires off { IsOff (scale_of field.by) field.graph.now field.first.now group.now lifted.now vector self.old.sketch self.old.weight }
-        ensures { IfOk result (IsAttempted (scale_of field.entry.by) field.entry.graph.now field.entry.first.now group.now lifted.now vector self.old.sketch self.old.weight self.new.sketch) }
+        ensures attempted { IfOk result (IsAttempted (scale_of field.entry.by) field.entry.graph.now field.entry.first.now group.now lifted.now vector self.old.sketch self.old.weight self.new.sketch) }
         ensures weight { OnOk result (self.new.weight ≡ self.old.weight) }
         ensures made { OnOk result (self.new.made ≡ self.old.made) }
     {
@@ -305,7 +305,7 @@ fn vector_of(lengths: u32, i: u32) -> Vector
     ensures count { result.count ≡ (if lengths == 0 then 0 else 2 * (i / 8 + 1)) }
 {
     Vector {
-        dir: direction((i % 8) as u8),
+        dir: direction((i % 8) as usize),
         count: if lengths == 0 { 0 } else { 2 * (i / 8 + 1) },
     }
 }

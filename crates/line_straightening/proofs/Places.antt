@@ -1,12 +1,14 @@
 -- Runs by their places in a list.
-use Rattle.std.proofs.Common.{◌≡◌, refl, sym, ◌∙◌, ap, ap₂, ℕ, suc, ◌+◌, ◌<◌, Bool, true, false, cond, eqb, ◌||◌, List, [], ◌∷◌, length, filter, map, get_or, ◌⊎◌, inl, inr, arith}
+use Rattle.std.proofs.Common.{◌≡◌, refl, sym, ◌∙◌, ap, ap₂, ℕ, zero, suc, ◌+◌, ◌<◌, Bool, true, false, cond, eqb, ◌||◌, List, [], ◌∷◌, ◌++◌, length, filter, map, get_or, replicate, set, ◌⊎◌, inl, inr, arith, length-set, get_or-set_other, get_or-set_same}
 use Rattle.std.proofs.lemmas.Bool.{cases_eq, eq-eqb, ne_eqb}
 use Rattle.std.proofs.lemmas.List.Elements.{filter_agree}
+use Rattle.std.proofs.lemmas.List.FromFn.{fill_by_all, get_or-map-range_with_len, length-map-range_with_len}
 use Rattle.std.specs.List.{range_with_len}
 use Rattle.map_base.specs.declared.ids.NodeId.{NodeId}
 use Rattle.line_chains.specs.declared.chain.Chain.{Chain}
 use Rattle.line_chains.specs.Chains.{end_of}
 use Rattle.run_laying.specs.Attempts.{has_node}
+use Rattle.drawing_search.proofs.Ranges.{filter_more}
 use Rattle.line_straightening.specs.Groups.{ends_at, places_at, places_at_both, run_at}
 use Rattle.line_straightening.specs.Straightening.{runs_at}
 
@@ -66,3 +68,72 @@ runs_at_two runs n m =
     runs_by_places (λ (c : Chain). ends_at n.0 c || ends_at m.0 c) runs
     ∙ filter_agree (λ (c : Chain). ends_at n.0 c || ends_at m.0 c) (λ (c : Chain). has_node (n ∷ m ∷ []) c.from.0 || has_node (n ∷ m ∷ []) (end_of c).0)
     (λ c. exchanged (eqb c.from.0 n.0) (eqb (end_of c).0 n.0) (eqb c.from.0 m.0) (eqb (end_of c).0 m.0) ∙ ap₂ (λ a b. a || b) (sym (two_nodes n m c.from.0)) (sym (two_nodes n m (end_of c).0))) runs
+
+-- ---- the runs at each node, one run after another
+
+-- of the first so many runs, the places of those that end at a node
+abbrev pub places_upto : List Chain → ℕ → ℕ → List ℕ
+places_upto runs i n = filter (λ j. ends_at n (run_at runs j)) (range_with_len 0 i)
+
+abbrev pub all_upto : List Chain → ℕ → ℕ → List (List ℕ)
+all_upto runs i nodes = map (places_upto runs i) (range_with_len 0 nodes)
+
+pub none_upto : (runs : List Chain) (a nodes : ℕ) → map (places_upto runs 0) (range_with_len a nodes) ≡ replicate nodes []
+none_upto runs a zero = refl
+none_upto runs a (suc n) = ap (λ (v : List (List ℕ)). [] ∷ v) (none_upto runs (a + 1) n)
+
+or_true : (b : Bool) → (b || true) ≡ true
+or_true true = refl
+or_true false = refl
+
+module _ (runs : List Chain) (nodes i : ℕ) (c : Chain) (is : c ≡ run_at runs i) (from : c.from.0 < nodes) (to : (end_of c).0 < nodes) (apart : c.from.0 ≡ (end_of c).0 → ⊥) where
+  at_from : (k : ℕ) → k ≡ c.from.0 → ends_at k (run_at runs i) ≡ true
+  at_from k e = ap (ends_at k) (sym is) ∙ ap (λ b. b || eqb (end_of c).0 k) (eq-eqb c.from.0 k (sym e))
+
+  at_end : (k : ℕ) → k ≡ (end_of c).0 → ends_at k (run_at runs i) ≡ true
+  at_end k e = ap (ends_at k) (sym is) ∙ ap (λ b. eqb c.from.0 k || b) (eq-eqb (end_of c).0 k (sym e)) ∙ or_true (eqb c.from.0 k)
+
+  at_neither : (k : ℕ) → (k ≡ c.from.0 → ⊥) → (k ≡ (end_of c).0 → ⊥) → ends_at k (run_at runs i) ≡ false
+  at_neither k f g = ap (ends_at k) (sym is) ∙ ap₂ (λ a b. a || b) (ne_eqb c.from.0 k (λ e. f (sym e))) (ne_eqb (end_of c).0 k (λ e. g (sym e)))
+
+  -- one run more, at both its ends
+  pub one_run_more : (old mid new : List (List ℕ)) → old ≡ all_upto runs i nodes → mid ≡ set old c.from.0 (get_or old c.from.0 [] ++ i ∷ []) → new ≡ set mid (end_of c).0 (get_or mid (end_of c).0 [] ++ i ∷ []) → new ≡ all_upto runs (i + 1) nodes
+  one_run_more old mid new before one other = fill_by_all (places_upto runs (i + 1)) new nodes [] each at
+    where
+      many : length old ≡ nodes
+      many = ap length before ∙ length-map-range_with_len (places_upto runs i) 0 nodes
+
+      after : length mid ≡ nodes
+      after = ap length one ∙ length-set old c.from.0 (get_or old c.from.0 [] ++ i ∷ []) ∙ many
+
+      each : length new ≡ nodes
+      each = ap length other ∙ length-set mid (end_of c).0 (get_or mid (end_of c).0 [] ++ i ∷ []) ∙ after
+
+      was : (k : ℕ) → k < nodes → get_or old k [] ≡ places_upto runs i k
+      was k h = ap (λ (v : List (List ℕ)). get_or v k []) before ∙ get_or-map-range_with_len (places_upto runs i) 0 nodes k k [] h (omega arith)
+
+      more : (k : ℕ) (b : Bool) → ends_at k (run_at runs i) ≡ b → cond b (places_upto runs i k ++ i ∷ []) (places_upto runs i k) ≡ places_upto runs (i + 1) k
+      more k b e = sym (filter_more (λ j. ends_at k (run_at runs j)) i ∙ ap (λ t. cond t (places_upto runs i k ++ i ∷ []) (places_upto runs i k)) e)
+
+      beside : (k : ℕ) → (k ≡ c.from.0 → ⊥) → get_or mid k [] ≡ get_or old k []
+      beside k f = ap (λ (v : List (List ℕ)). get_or v k []) one ∙ get_or-set_other old c.from.0 k (get_or old c.from.0 [] ++ i ∷ []) [] f
+
+      at : (k : ℕ) → k < nodes → get_or new k [] ≡ places_upto runs (i + 1) k
+      at k h = ap (λ (v : List (List ℕ)). get_or v k []) other ∙ by_end (cases_eq k (end_of c).0)
+        where
+          by_from : (k ≡ (end_of c).0 → ⊥) → (k ≡ c.from.0) ⊎ (k ≡ c.from.0 → ⊥) → get_or mid k [] ≡ places_upto runs (i + 1) k
+          by_from f (inl e) =
+              ap (λ (v : List (List ℕ)). get_or v k []) one
+              ∙ ap (λ j. get_or (set old c.from.0 (get_or old c.from.0 [] ++ i ∷ [])) j []) e
+              ∙ get_or-set_same old c.from.0 (get_or old c.from.0 [] ++ i ∷ []) [] (omega (arith, from, many))
+              ∙ ap (λ (v : List ℕ). v ++ i ∷ []) (ap (λ j. get_or old j []) (sym e) ∙ was k h)
+              ∙ more k true (at_from k e)
+          by_from f (inr g) = beside k g ∙ was k h ∙ more k false (at_neither k g f)
+
+          by_end : (k ≡ (end_of c).0) ⊎ (k ≡ (end_of c).0 → ⊥) → get_or (set mid (end_of c).0 (get_or mid (end_of c).0 [] ++ i ∷ [])) k [] ≡ places_upto runs (i + 1) k
+          by_end (inl e) =
+              ap (λ j. get_or (set mid (end_of c).0 (get_or mid (end_of c).0 [] ++ i ∷ [])) j []) e
+              ∙ get_or-set_same mid (end_of c).0 (get_or mid (end_of c).0 [] ++ i ∷ []) [] (omega (arith, to, after))
+              ∙ ap (λ (v : List ℕ). v ++ i ∷ []) (ap (λ j. get_or mid j []) (sym e) ∙ beside k (λ f. apart (sym f ∙ e)) ∙ was k h)
+              ∙ more k true (at_end k e)
+          by_end (inr f) = get_or-set_other mid (end_of c).0 k (get_or mid (end_of c).0 [] ++ i ∷ []) [] f ∙ by_from f (cases_eq k c.from.0)

@@ -1,6 +1,6 @@
 //! Runs, and those that end at nodes.
 
-ghost use Rattle.std.specs.Prelude.{◌≡◌, ◌≢◌, ◌<◌, ◌↔◌, ◌⊎◌, ℕ, length, map, vec_items, All, Contains, IfOk, IsStrictlySorted};
+ghost use Rattle.std.specs.Prelude.{◌≡◌, ◌≢◌, ◌<◌, ◌↔◌, ◌⊎◌, ◌++◌, ◌∷◌, [], ℕ, length, map, slice_index_or, slice_set, vec_items, All, Contains, IfOk, IsStrictlySorted, OnOk};
 ghost use Rattle.line_chains.specs.declared.chain.Chain.{Chain};
 ghost use Rattle.line_chains.specs.Chains.{end_of};
 ghost use Rattle.run_laying.specs.Attempts.{run_of};
@@ -62,10 +62,19 @@ pub(crate) fn runs_at_nodes(
         at.push(Vec::new(alloc))?;
     }
     for i in 0..runs.len() {
-        at[runs[i].from.0 as usize].push(i)?;
-        at[end_of(&runs[i]).0 as usize].push(i)?;
+        push_at(&mut at, runs[i].from, i)?;
+        push_at(&mut at, end_of(&runs[i]), i)?;
     }
     Ok(at)
+}
+
+/// Lists a place at a node.
+fn push_at(at: &mut Vec<Vec<usize>>, n: NodeId, place: usize) -> Result<(), NoMemory>
+    requires { n.0 < length at.old.items }
+    ensures { OnOk result (map vec_items at.new.items ≡ slice_set (map vec_items at.old.items) n.0 (slice_index_or (map vec_items at.old.items) n.0 [] ++ place ∷ [])) }
+{
+    at[n.0 as usize].push(place)?;
+    Ok(())
 }
 
 /// Copies of runs, by their places in a list.

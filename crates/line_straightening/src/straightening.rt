@@ -27,6 +27,7 @@ pub fn straighten(
     requires cell { 0 < cell }
     ensures { IfOk result (IsStraightened graph.now cell most drawing.walks) }
 {
+    let _nodes = graph.nodes();
     let corners = corners_of(alloc, graph, cell)?;
     let chains = chains_of(alloc, graph, &corners)?;
     let groups = groups_of(alloc, graph, &corners, &chains)?;
