@@ -12,6 +12,7 @@ pub mod Ranges
 mod Farther
 mod WalksOff
 mod RunEnds
+mod RunReads
 pub mod FewSteps
 mod Laid
 mod LaySteps

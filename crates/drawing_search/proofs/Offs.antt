@@ -16,26 +16,17 @@ use Rattle.grid_board.specs.Points.{is_near}
 use Rattle.std.proofs.lemmas.Bool.{and_parts}
 use Rattle.segment_router.proofs.Places.{all_in, in_at}
 use Rattle.drawing_weights.specs.Scales.{Scale}
-use Rattle.run_laying.specs.Laying.{board_of, first_seg_of, last_seg_of, Sketch}
-use Rattle.run_laying.specs.Runs.{IsRun}
+use Rattle.run_laying.specs.Laying.{board_of, Sketch}
 use Rattle.run_laying.specs.Sketches.{point_of_node}
-use Rattle.run_laying.proofs.RunFacts.{end_below}
 use Rattle.drawing_search.specs.declared.group.Group.{Group}
 use Rattle.drawing_search.specs.declared.group.Vector.{Vector}
 use Rattle.drawing_search.specs.declared.lifting.Lifted.{Lifted}
 use Rattle.drawing_search.specs.Changes.{has_room, is_open, moved_by}
 use Rattle.drawing_search.specs.Lifting.{IsOff}
 use Rattle.drawing_search.proofs.FewSteps.{apart_few}
-use Rattle.drawing_search.proofs.LaidAll.{first_end, last_end}
 use Rattle.drawing_search.proofs.Lifts.{from_map}
 use Rattle.drawing_search.proofs.Nearby.{on_board_near, stands_near}
-
--- the ends of a run are nodes of the graph
-pub run_from : (graph : GraphParts) → IsConsistent graph → (c : Chain) → IsRun graph c → c.from.0 < length graph.kinds
-run_from graph fit c run = let at = first_end graph c.from c.steps run.steps run.some in end_below graph fit (first_seg_of c.steps) c.from.0 at.0 at.1
-
-pub run_to : (graph : GraphParts) → IsConsistent graph → (c : Chain) → IsRun graph c → (end_of c).0 < length graph.kinds
-run_to graph fit c run = let at = last_end graph (first_seg_of c.steps) c.from c.steps run.steps run.some in end_below graph fit (last_seg_of c) (end_of c).0 at.0 at.1
+use Rattle.drawing_search.proofs.RunReads.{run_from, run_to}
 
 all_mapped : {X Y : Type 0} (P : Y → Type 0) (f : X → Y) (xs : List X) → ((x : X) → In x xs → P (f x)) → All P (map f xs)
 all_mapped P f xs h i d below = let found = from_map f xs (get_or (map f xs) i d) (in_at (map f xs) i d below) in subst P (sym found.2) (h found.0 found.1)
