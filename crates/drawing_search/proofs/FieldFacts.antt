@@ -1,7 +1,7 @@
 -- What the joined pairs of a field are.
 use Rattle.std.proofs.Common.{◌≡◌, refl, sym, ◌∙◌, ap, subst, ℕ, ◌+◌, ◌<◌, ◌≤◌, Bool, true, false, cond, List, [], ◌∷◌, length, map, drop, get_or, Contains, inl, inr, arith, length-drop}
 use Rattle.std.proofs.Math.ListN.{get_or-map}
-use Rattle.std.proofs.lemmas.List.{drop_more}
+use Rattle.std.proofs.lemmas.List.{drop_more, length-map}
 use Rattle.std.proofs.lemmas.Bool.{lt-ltb}
 use Rattle.std.proofs.lemmas.Bool.Decides.{nat_tests}
 use Rattle.std.specs.Prelude.{nat_lt, vec_items}
@@ -13,7 +13,7 @@ use Rattle.graph_core.specs.Consistent.{IsConsistent}
 use Rattle.line_chains.specs.declared.chain.ChainStep.{ChainStep}
 use Rattle.octi_grid.specs.declared.point.GridPoint.{GridPoint}
 use Rattle.octi_grid.proofs.Members.{In}
-use Rattle.segment_router.proofs.Places.{all_in}
+use Rattle.segment_router.proofs.Places.{all_in, in_at}
 use Rattle.segment_router.proofs.RoutingLemmas.{round_within}
 use Rattle.drawing_weights.specs.Scales.{joined_pairs, join_same, Scale}
 use Rattle.run_laying.specs.Laying.{Sketch}
@@ -75,6 +75,17 @@ module _ (graph : GraphParts) (fit : IsConsistent graph) (n : ℕ) (node : n < l
 -- the pairs at a node, as they are kept
 pub pairs_read : (f : Field) → IsField f → (n : ℕ) → get_or (map vec_items f.pairs.now.held.items) n [] ≡ pairs_at f.graph.now n
 pairs_read f fit n = ap (λ (v : List (List (SegId × SegId))). get_or v n []) fit.pairs ∙ get_or-map joined_pairs f.graph.now.joins n []
+
+abbrev pub no_pair : SegId × SegId
+no_pair = (record { 0 = 0 }, record { 0 = 0 })
+
+-- there are some for each node, and each joins segments of the graph
+pub pairs_held : (f : Field) → IsField f → (n : ℕ) → n < length f.graph.now.kinds → n < length f.pairs.now.held.items
+pairs_held f fit n node = omega (arith, ap length fit.pairs, length-map f.pairs.now.held.items vec_items, length-map f.graph.now.joins joined_pairs, fit.graph.joins_each, node)
+
+pub pair_at : (f : Field) → IsField f → (n : ℕ) → n < length f.graph.now.kinds → (ps : List (SegId × SegId)) → ps ≡ get_or (map vec_items f.pairs.now.held.items) n [] → (i : ℕ) → i < length ps
+    → ((get_or ps i no_pair).0.0 < length f.graph.now.ends) × ((get_or ps i no_pair).1.0 < length f.graph.now.ends)
+pair_at f fit n node ps is i h = pair_below f.graph.now fit.graph n node (get_or ps i no_pair) (subst (λ (v : List (SegId × SegId)). In (get_or ps i no_pair) v) (is ∙ pairs_read f fit n) (in_at ps i no_pair h))
 
 -- ---- steps of a run
 

@@ -8,7 +8,7 @@ ghost use Rattle.run_laying.specs.Sketches.{is_standing, IsLegalSketch};
 ghost use Rattle.walk_search.specs.Moves.{direction};
 ghost use Rattle.walk_search.specs.Reaching.{reach_of};
 ghost use Rattle.drawing_search.specs.Gains.{AreOnGraph, IsField};
-ghost use Rattle.drawing_search.specs.Least.{diagonal, free_nodes, ports_for, straight_way, turn_price, turns_at_least};
+ghost use Rattle.drawing_search.specs.Least.{diagonal, free_nodes, is_free_node, ports_for, straight_way, turn_price, turns_at_least};
 ghost use Rattle.drawing_search.specs.Bounds.{overs_by, with_first_by, with_last_by, with_walk_by, AreOvers, IsLeastOf, IsSmallLeast, IsSmallOver};
 
 use crate::gains::Field;
@@ -207,11 +207,25 @@ impl<'a> Field<'a> {
     {
         let mut count = 0;
         for i in 1..steps.len() {
-            if self.pairs.at(steps[i - 1].to).is_empty() || self.by.overs == 0 {
-                count += 1;
-            }
+            count += self.free_at(steps[i - 1].to);
         }
         count
+    }
+
+    /// One for a node that no line goes over, or where that weighs nothing, and else none.
+    fn free_at(self, n: NodeId) -> u64
+        requires field { IsField self }
+        requires node { n.0 < length self.graph.now.kinds }
+        ensures count { result ≡ (if is_free_node (scale_of self.entry.by) self.entry.graph.now n then 1 else 0) }
+        ensures small { result ≤ 1 }
+    {
+        if self.pairs.at(n).is_empty() {
+            return 1;
+        }
+        if self.by.overs == 0 {
+            return 1;
+        }
+        0
     }
 }
 
