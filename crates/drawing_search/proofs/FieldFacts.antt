@@ -1,6 +1,7 @@
 -- What the joined pairs of a field are.
-use Rattle.std.proofs.Common.{◌≡◌, refl, sym, ◌∙◌, ap, subst, ℕ, ◌+◌, ◌<◌, ◌≤◌, Bool, true, false, cond, List, [], ◌∷◌, length, map, drop, get_or, Contains, inl, inr, arith, length-drop}
+use Rattle.std.proofs.Common.{◌≡◌, refl, sym, ◌∙◌, ap, subst, ℕ, ◌+◌, ◌*◌, ◌<◌, ◌≤◌, Bool, true, false, cond, List, [], ◌∷◌, length, map, drop, get_or, Contains, inl, inr, arith, length-drop}
 use Rattle.std.proofs.Math.ListN.{get_or-map}
+use Rattle.std.proofs.Math.Nat.{mul-le-mul_left}
 use Rattle.std.proofs.lemmas.List.{drop_more, length-map}
 use Rattle.std.proofs.lemmas.Bool.{lt-ltb}
 use Rattle.std.proofs.lemmas.Bool.Decides.{nat_tests}
@@ -86,6 +87,14 @@ pairs_held f fit n node = omega (arith, ap length fit.pairs, length-map f.pairs.
 pub pair_at : (f : Field) → IsField f → (n : ℕ) → n < length f.graph.now.kinds → (ps : List (SegId × SegId)) → ps ≡ get_or (map vec_items f.pairs.now.held.items) n [] → (i : ℕ) → i < length ps
     → ((get_or ps i no_pair).0.0 < length f.graph.now.ends) × ((get_or ps i no_pair).1.0 < length f.graph.now.ends)
 pair_at f fit n node ps is i h = pair_below f.graph.now fit.graph n node (get_or ps i no_pair) (subst (λ (v : List (SegId × SegId)). In (get_or ps i no_pair) v) (is ∙ pairs_read f fit n) (in_at ps i no_pair h))
+
+-- so what the turns at a node weigh is small
+pub turns_small : (f : Field) → IsField f → (n : ℕ) → n < length f.graph.now.kinds → (ps : List (SegId × SegId)) → ps ≡ get_or (map vec_items f.pairs.now.held.items) n [] → (total i : ℕ) → total ≤ 4 * i → i ≤ length ps → f.by.overs * total ≤ 160000000000
+turns_small f fit n node ps is total i small within =
+    let few = pairs_few f.graph.now fit.graph n node in
+    let each = ap length (is ∙ pairs_read f fit n) in
+    let most : total ≤ 1600000000 = omega (arith, small, within, few, each) in
+    omega (arith, mul-le-mul_left total fit.overs, most)
 
 -- ---- steps of a run
 
