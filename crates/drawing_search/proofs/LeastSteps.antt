@@ -1,7 +1,7 @@
 -- Bounds of a run as they are made: one walk more, and one way more in each walk.
-use Rattle.std.proofs.Common.{◌≡◌, sym, ◌∙◌, ap, subst, ℕ, ◌+◌, ◌*◌, ◌<◌, ◌≤◌, ◌⊎◌, inl, inr, min, List, length, map, get_or, Option, Some, None, arith}
+use Rattle.std.proofs.Common.{◌≡◌, refl, sym, ◌∙◌, ap, subst, ℕ, ◌+◌, ◌*◌, ◌<◌, ◌≤◌, ◌⊎◌, inl, inr, min, List, length, map, get_or, replicate, Option, arith}
 use Rattle.std.proofs.lemmas.Bool.{cases_lt}
-use Rattle.std.proofs.lemmas.List.{get_or_past}
+use Rattle.std.proofs.lemmas.List.{get_or-replicate, get_or_past}
 use Rattle.std.proofs.lemmas.List.FromFn.{fill_by_all, get_or-map-range_with_len, length-map-range_with_len}
 use Rattle.std.specs.List.{range_with_len}
 use Rattle.octi_grid.specs.declared.dir.Dir.{Dir}
@@ -9,7 +9,7 @@ use Rattle.drawing_search.specs.declared.least.LeastTurns.{LeastTurns}
 use Rattle.drawing_search.specs.Bounds.{with_walk_by, IsSmallLeast, IsSmallOver}
 use Rattle.drawing_search.specs.Least.{turns_at_least}
 
-abbrev least_of : List ℕ → ℕ → ℕ → LeastTurns
+abbrev pub least_of : List ℕ → ℕ → ℕ → LeastTurns
 least_of by price free = record { by = by; per_turn = price; free_turns = free }
 
 -- a walk more was taken into account, way by way
@@ -41,3 +41,11 @@ walk_small l first last overs small = record {
 -- what is small stays so where it is read
 pub over_at : (os : List (Option ℕ)) (i : ℕ) (o : Option ℕ) → i < length os → o ≡ get_or os i o → ((k : ℕ) (d : Option ℕ) → k < length os → IsSmallOver (get_or os k d)) → IsSmallOver o
 over_at os i o h is all = subst IsSmallOver (sym is) (all i o h)
+
+-- bounds before any walk was looked at
+pub never_small : (price free : ℕ) → price ≤ 101 → free ≤ 80000 → IsSmallLeast (least_of (replicate 9 1125899906842624) price free)
+never_small price free few most = record { each = refl; by = λ k. at k (cases_lt k 9); price = few; free = most }
+  where
+    at : (k : ℕ) → (k < 9) ⊎ (9 ≤ k) → get_or (replicate 9 1125899906842624) k 0 ≤ 1125899906842624
+    at k (inl less) = let is = get_or-replicate 9 k 1125899906842624 0 less in omega (arith, is)
+    at k (inr past) = let is = get_or_past (replicate 9 1125899906842624) k 0 past in omega (arith, is)

@@ -124,11 +124,13 @@ impl Search {
             return Ok(None);
         }
         self.stand_moved(moved, vector);
-        let found = self.lay_all(alloc, field, runs, &lifted.least, base, ahead)?;
-        if found.is_none() {
-            self.lift_moved(field, moved);
+        match self.lay_all(alloc, field, runs, &lifted.least, base, ahead)? {
+            None => {
+                self.lift_moved(field, moved);
+                Ok(None)
+            }
+            Some(weight) => Ok(Some(weight)),
         }
-        Ok(found)
     }
 
     /// Whether nodes that are off the board may move by a vector: each comes to a point of the board that is no other
