@@ -1,5 +1,6 @@
 -- What is known of nodes and runs that are off the board while an attempt is made.
-use Rattle.std.proofs.Common.{◌≡◌, ◌∙◌, sym, ap, subst, ℕ, ◌<◌, ◌≤◌, true, List, length, map, get_or, arith}
+use Rattle.std.proofs.Common.{◌≡◌, ◌∙◌, sym, ap, subst, ℕ, ◌+◌, ◌<◌, ◌≤◌, true, false, min, List, length, fold, map, get_or, Some, None, arith}
+use Rattle.std.specs.List.{sum_by}
 use Rattle.std.proofs.lemmas.List.{length-map}
 use Rattle.std.specs.Prelude.{◌&&◌, not, All}
 use Rattle.map_base.specs.declared.ids.NodeId.{NodeId}
@@ -15,15 +16,20 @@ use Rattle.grid_board.specs.Boards.{contains}
 use Rattle.grid_board.specs.Points.{is_near}
 use Rattle.std.proofs.lemmas.Bool.{and_parts}
 use Rattle.segment_router.proofs.Places.{all_in, in_at}
-use Rattle.drawing_weights.specs.Scales.{Scale}
+use Rattle.drawing_weights.specs.Scales.{apart_weight_by, Scale}
 use Rattle.run_laying.specs.Laying.{board_of, Sketch}
-use Rattle.run_laying.specs.Sketches.{point_of_node}
+use Rattle.run_laying.specs.Sketches.{lifted as lifted_off, point_of_node}
 use Rattle.drawing_search.specs.declared.group.Group.{Group}
 use Rattle.drawing_search.specs.declared.group.Vector.{Vector}
 use Rattle.drawing_search.specs.declared.lifting.Lifted.{Lifted}
-use Rattle.drawing_search.specs.Changes.{has_room, is_open, moved_by}
-use Rattle.drawing_search.specs.Lifting.{IsOff}
+use Rattle.drawing_search.specs.Bounds.{gains_at_least, HaveBounds}
+use Rattle.drawing_search.specs.Changes.{all_moved, has_room, is_open, moved_by, point_after, stood_at, AreLayable, AreLiftable, CanStandEach}
+use Rattle.drawing_search.specs.Gains.{first_point, sketch_weight}
+use Rattle.drawing_search.specs.Lifting.{IsAttempted, IsOff}
+use Rattle.drawing_search.specs.Tries.{AreAllLaid}
+use Rattle.drawing_search.proofs.AttemptCases.{can_move, case_failed, case_heavy, case_made, case_no_room, layable_moved, least_moved, moved_may_lift, ready_moved, weight_moved}
 use Rattle.drawing_search.proofs.FewSteps.{apart_few}
+use Rattle.drawing_search.proofs.LayingAll.{least_of}
 use Rattle.drawing_search.proofs.Lifts.{from_map}
 use Rattle.drawing_search.proofs.Nearby.{on_board_near, stands_near}
 use Rattle.drawing_search.proofs.RunReads.{run_from, run_to}
@@ -64,3 +70,49 @@ module _ (graph : GraphParts) (fit : IsConsistent graph) (scale : Scale) (first 
 
   pub runs_to : All (λ (c : Chain). (end_of c).0 < length old.points) g.runs
   runs_to i d h = omega (arith, run_to graph fit (get_or g.runs i d) (off.fitting.runs i d h), off.lifted.off.points_each, off.settled.legal.points_each)
+
+  -- ---- what comes of an attempt
+
+  pub attempt_no_room : has_room old v l.moved.items ≡ false → IsAttempted scale graph first g l v old weight old None
+  attempt_no_room none = λ whole s fits lifted. case_no_room graph fit scale first g v whole old weight l off.apart s fits lifted none
+
+  module _ (room : has_room old v l.moved.items ≡ true) where
+    -- its runs may be laid where its nodes have moved
+    pub attempt_can : CanStandEach old (all_moved v l.moved.items)
+    attempt_can = can_move graph fit scale first g v off.whole old weight l off.apart off.settled off.fitting off.lifted room
+
+    pub attempt_layable : AreLayable graph (fold stood_at old (all_moved v l.moved.items)) g.runs
+    attempt_layable = layable_moved graph fit scale first g v off.whole old weight l off.apart off.settled off.fitting off.lifted room
+
+    pub attempt_bounds : HaveBounds scale graph (fold stood_at old (all_moved v l.moved.items)) g.runs l.least.items
+    attempt_bounds = (ready_moved graph fit scale first g v off.whole old weight l off.apart off.settled off.fitting off.lifted room).have
+
+    module _ (base ahead : ℕ) (base_is : base ≡ l.rest + sum_by (λ (m : NodeId × GridPoint). apart_weight_by scale m.0.0 (first_point first m.0.0) m.1) (all_moved v l.moved.items))
+        (ahead_is : ahead ≡ min 18446744073709551615 (gains_at_least (point_after old v l.moved.items) g.runs l.least.items)) where
+      pub attempt_base : base ≡ sketch_weight scale graph first (fold stood_at old (all_moved v l.moved.items))
+      attempt_base = base_is ∙ sym (weight_moved graph fit scale first g v off.whole old weight l off.apart off.settled off.fitting off.lifted room)
+
+      least_there : gains_at_least (point_after old v l.moved.items) g.runs l.least.items ≡ least_of (fold stood_at old (all_moved v l.moved.items)) g.runs l.least.items
+      least_there = least_moved graph fit scale first g v off.whole old weight l off.apart off.settled off.fitting off.lifted room
+
+      -- the runs add too much
+      pub attempt_heavy : weight ≤ min 18446744073709551615 (base + ahead) → IsAttempted scale graph first g l v old weight old None
+      attempt_heavy heavy =
+          let few = off.settled.small in
+          let same = attempt_base in
+          let there = least_there in
+          λ whole s fits lifted. case_heavy graph fit scale first g v whole old weight l off.apart s fits lifted room (omega (arith, heavy, few, same, ahead_is, there))
+
+      -- or not
+      pub attempt_ahead : min 18446744073709551615 (base + ahead) < weight → (ahead ≡ gains_at_least (λ (n : NodeId). point_of_node (fold stood_at old (all_moved v l.moved.items)) n.0) g.runs l.least.items) × (base + ahead < weight)
+      attempt_ahead less = let few = off.settled.small in let there = least_there in (omega (arith, less, few, ahead_is, there), omega (arith, less, few))
+
+    pub attempt_made : (new : Sketch) (less : ℕ) → AreAllLaid scale graph first weight g.runs (fold stood_at old (all_moved v l.moved.items)) new (Some less) → IsAttempted scale graph first g l v old weight new (Some less)
+    attempt_made new less laid = λ whole s fits lifted. case_made graph fit scale first g v whole old weight l off.apart s fits lifted room new less laid
+
+    module _ (new : Sketch) (laid : AreAllLaid scale graph first weight g.runs (fold stood_at old (all_moved v l.moved.items)) new None) where
+      pub attempt_liftable : AreLiftable graph new (map (λ (m : NodeId × GridPoint). m.0) l.moved.items)
+      attempt_liftable = moved_may_lift graph fit scale first g v off.whole old weight l off.apart off.settled off.fitting off.lifted room new laid
+
+      pub attempt_failed : (fin : Sketch) → fin ≡ fold lifted_off new (map (λ (m : NodeId × GridPoint). m.0) l.moved.items) → IsAttempted scale graph first g l v old weight fin None
+      attempt_failed fin is = λ whole s fits lifted. case_failed graph fit scale first g v whole old weight l off.apart s fits lifted room new laid fin is
