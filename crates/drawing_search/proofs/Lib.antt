@@ -13,6 +13,7 @@ mod Farther
 mod WalksOff
 mod RunEnds
 mod RunReads
+mod AskedWalks
 pub mod FewSteps
 mod Laid
 mod LaySteps
