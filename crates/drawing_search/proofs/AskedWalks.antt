@@ -7,7 +7,7 @@ use Rattle.map_base.specs.declared.ids.SegId.{SegId}
 use Rattle.octi_grid.specs.declared.point.GridPoint.{GridPoint}
 use Rattle.walk_search.specs.declared.ends.End.{End}
 use Rattle.walk_search.specs.Routes.{if_within, route}
-use Rattle.walk_search.proofs..antt.{no_route_from, no_route_to}
+use Rattle.segment_router.proofs.RouteLemmas.{no_route_from, no_route_to}
 use Rattle.segment_router.specs.Routes.{end_at}
 use Rattle.run_laying.specs.Laying.{board_of, board_under, first_seg_of, last_seg_of, run_walk, Sketch}
 use Rattle.run_laying.specs.Runs.{IsRun}
