@@ -1,5 +1,32 @@
+use mir.Syntax.{w32}
+use mir.Val.{of_z, to_z}
+use Rattle.std.proofs.Common.{◌≡◌, ◌∙◌, ◌≤◌, ◌+ℤ◌, ◌-ℤ◌, ℕ, ℤ, pos, unsigned_abs, sym, ap, subst, arith}
+use Rattle.std.proofs.lemmas.Int.{ints}
 use Rattle.drawing_search.proofs.BoundParts.{same_bounds}
 use Rattle.drawing_search.proofs.bounds.wider.Goals as goal
 
+read : (z : ℤ) → unsigned_abs z ≤ 1920 → to_z w32 (of_z w32 z) ≡ z
+read z h = omega (arith, ints)
+
+less : (z : ℤ) (m : ℕ) → unsigned_abs z ≤ 1900 → m ≤ 20 → unsigned_abs (z -ℤ pos m) ≤ 1920
+less z m h k = omega (arith, ints)
+
+more : (z : ℤ) (m : ℕ) → unsigned_abs z ≤ 1900 → m ≤ 20 → unsigned_abs (z +ℤ pos m) ≤ 1920
+more z m h k = omega (arith, ints)
+
+-- a bound as it is passed and read
+passed : (z : ℤ) → unsigned_abs z ≤ 1900 → unsigned_abs (to_z w32 (of_z w32 z)) ≤ 1900
+passed z h = subst (λ (y : ℤ). unsigned_abs y ≤ 1900) (sym (read z (omega (arith, h)))) h
+
+lower : (r z : ℤ) (m : ℕ) → unsigned_abs z ≤ 1900 → m ≤ 20 → r ≡ (to_z w32 (of_z w32 z) -ℤ pos m) → to_z w32 (of_z w32 r) ≡ (to_z w32 (of_z w32 z) -ℤ pos m)
+lower r z m h k e = ap (λ (y : ℤ). to_z w32 (of_z w32 y)) e ∙ read (to_z w32 (of_z w32 z) -ℤ pos m) (less (to_z w32 (of_z w32 z)) m (passed z h) k)
+
+higher : (r z : ℤ) (m : ℕ) → unsigned_abs z ≤ 1900 → m ≤ 20 → r ≡ (to_z w32 (of_z w32 z) +ℤ pos m) → to_z w32 (of_z w32 r) ≡ (to_z w32 (of_z w32 z) +ℤ pos m)
+higher r z m h k e = ap (λ (y : ℤ). to_z w32 (of_z w32 y)) e ∙ read (to_z w32 (of_z w32 z) +ℤ pos m) (more (to_z w32 (of_z w32 z)) m (passed z h) k)
+
 pub returns : goal.returns
-returns c = same_bounds _ _ _ _ _ _ _ _ c.lower.ensures c.higher.ensures c.lower-2.ensures c.higher-2.ensures
+returns c =
+    let b = c.args.b in
+    let m = c.args.margin in
+    same_bounds _ _ _ _ _ _ _ _ (lower c.lower.result b.left m c.requires.left c.requires.margin c.lower.ensures) (higher c.higher.result b.right m c.requires.right c.requires.margin c.higher.ensures)
+    (lower c.lower-2.result b.bottom m c.requires.bottom c.requires.margin c.lower-2.ensures) (higher c.higher-2.result b.top m c.requires.top c.requires.margin c.higher-2.ensures)

@@ -11,7 +11,7 @@ use Rattle.run_laying.specs.Sketches.{lifted, IsLegalSketch}
 use Rattle.run_laying.proofs.RunFacts.{step_of}
 use Rattle.drawing_search.specs.Changes.{without_walks, AreLiftable}
 use Rattle.drawing_search.proofs.TakenOff.{off_legal}
-use Rattle.drawing_search.proofs.laying.Sketch.take_run.Goals as goal
+use Rattle.drawing_search.proofs.sketch.Sketch.take_run.Goals as goal
 
 abbrev none : ChainStep
 none = record { seg = record { 0 = 0 }; to = record { 0 = 0 } }

@@ -3,7 +3,7 @@ use Rattle.line_chains.specs.Chains.{end_of}
 use Rattle.run_laying.specs.Laying.{last_seg_of, with_pieces}
 use Rattle.run_laying.specs.Pieces.{pieces_of}
 use Rattle.drawing_search.proofs.Laid.{IsLayingFrom}
-use Rattle.drawing_search.proofs.laying.Sketch.lay.Given as goal
+use Rattle.drawing_search.proofs.sketch.Sketch.lay.Given as goal
 
 -- the steps that are left are laid on what there is
 abbrev pub invariant-loop-i : goal.invariant-loop-i

@@ -7,7 +7,7 @@ use Rattle.run_laying.specs.Laying.{Sketch}
 use Rattle.run_laying.specs.Sketches.{lifted}
 use Rattle.drawing_search.specs.Changes.{AreLiftable, IsLiftable}
 use Rattle.drawing_search.proofs.RunEnds.{inner_end, inner_more}
-use Rattle.drawing_search.proofs.laying.Sketch.lift_between.Goals as goal
+use Rattle.drawing_search.proofs.sketch.Sketch.lift_between.Goals as goal
 
 abbrev none : ChainStep
 none = record { seg = record { 0 = 0 }; to = record { 0 = 0 } }

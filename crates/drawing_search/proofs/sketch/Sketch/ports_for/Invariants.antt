@@ -2,7 +2,7 @@ use Rattle.std.proofs.Common.{◌≡◌, ◌++◌, [], drop, get_or}
 use Rattle.segment_router.specs.Routes.{port_at_node}
 use Rattle.segment_router.specs.Underway.{known_ports}
 use Rattle.run_laying.specs.Laying.{board_under}
-use Rattle.drawing_search.proofs.laying.Sketch.ports_for.Given as goal
+use Rattle.drawing_search.proofs.sketch.Sketch.ports_for.Given as goal
 
 -- the ports so far, and those of the segments that are left
 abbrev pub invariant-loop-s : goal.invariant-loop-s

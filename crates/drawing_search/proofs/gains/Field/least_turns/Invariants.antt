@@ -4,7 +4,7 @@ use Rattle.octi_grid.specs.Ways.{number_of}
 use Rattle.walk_search.specs.Routes.{directions}
 use Rattle.drawing_search.specs.declared.least.LeastTurns.{LeastTurns}
 use Rattle.drawing_search.specs.Bounds.{with_first_by, IsSmallLeast}
-use Rattle.drawing_search.proofs.least.Field.least_turns.Given as goal
+use Rattle.drawing_search.proofs.gains.Field.least_turns.Given as goal
 
 -- the ports so far
 abbrev pub invariant-loop-i : goal.invariant-loop-i

@@ -20,7 +20,7 @@ use Rattle.drawing_search.proofs.FewSteps.{run_few}
 use Rattle.drawing_search.proofs.LeastSteps.{never_small}
 use Rattle.drawing_search.proofs.LeastTurning.{least_of_all}
 use Rattle.drawing_search.proofs.RunReads.{no_step, reads_end, reads_first, reads_last, run_from, run_on_graph, run_to}
-use Rattle.drawing_search.proofs.least.Field.least_turns.Goals as goal
+use Rattle.drawing_search.proofs.gains.Field.least_turns.Goals as goal
 
 pub overs_at-from-requires-clause-node : goal.overs_at-from-requires-clause-node
 overs_at-from-requires-clause-node c = run_from c.args.self.graph.now c.requires.field.graph c.args.run.now c.requires.run

@@ -12,7 +12,7 @@ use Rattle.run_laying.proofs.Shown.{node_shown}
 use Rattle.drawing_search.specs.Least.{ports_for}
 use Rattle.drawing_search.proofs.AskedWalks.{none_asked, points_apart, walk_asked}
 use Rattle.drawing_search.proofs.RunReads.{reads_end, reads_first, reads_last, run_from, run_to}
-use Rattle.drawing_search.proofs.laying.Sketch.run_walk.Goals as goal
+use Rattle.drawing_search.proofs.sketch.Sketch.run_walk.Goals as goal
 
 pub ports_for-from_ports-requires-clause-node : goal.ports_for-from_ports-requires-clause-node
 ports_for-from_ports-requires-clause-node c = run_from c.args.graph.now c.requires.graph c.args.run.now c.requires.run

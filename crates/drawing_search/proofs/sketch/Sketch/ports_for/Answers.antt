@@ -9,7 +9,7 @@ use Rattle.segment_router.proofs.MaskLemmas.{allowed_known}
 use Rattle.segment_router.proofs.OrderLemmas.{read_at}
 use Rattle.segment_router.proofs.RoutingLemmas.{known_more, round_within}
 use Rattle.run_laying.specs.Laying.{board_under}
-use Rattle.drawing_search.proofs.laying.Sketch.ports_for.Goals as goal
+use Rattle.drawing_search.proofs.sketch.Sketch.ports_for.Goals as goal
 
 pub loop-s-init : goal.loop-s-init
 loop-s-init c =

@@ -2,7 +2,7 @@ use Rattle.std.proofs.Common.{◌≡◌, ℕ, ◌<◌, None, length, get_or}
 use Rattle.drawing_weights.specs.Scales.{scale_of}
 use Rattle.walk_search.specs.Moves.{direction}
 use Rattle.drawing_search.specs.Bounds.{overs_by, IsSmallOver}
-use Rattle.drawing_search.proofs.least.Field.overs_at.Given as goal
+use Rattle.drawing_search.proofs.gains.Field.overs_at.Given as goal
 
 -- the ports so far
 abbrev pub invariant-loop-i : goal.invariant-loop-i

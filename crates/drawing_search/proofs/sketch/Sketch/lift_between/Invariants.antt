@@ -2,7 +2,7 @@ use Rattle.std.proofs.Common.{◌≡◌, ◌-◌, drop, fold}
 use Rattle.run_laying.specs.Attempts.{inner_nodes}
 use Rattle.run_laying.specs.Sketches.{lifted}
 use Rattle.drawing_search.specs.Changes.{AreLiftable}
-use Rattle.drawing_search.proofs.laying.Sketch.lift_between.Given as goal
+use Rattle.drawing_search.proofs.sketch.Sketch.lift_between.Given as goal
 
 -- the nodes that are left are taken off what there is
 abbrev pub invariant-loop-i : goal.invariant-loop-i

@@ -7,7 +7,7 @@ use Rattle.run_laying.specs.Pieces.{reversed_walk}
 use Rattle.run_laying.proofs.Reversed.{back_within}
 use Rattle.drawing_search.specs.Tracks.{piece_along}
 use Rattle.drawing_search.proofs.Steps.{piece_all}
-use Rattle.drawing_search.proofs.laying.Sketch.lay_piece.Goals as goal
+use Rattle.drawing_search.proofs.sketch.Sketch.lay_piece.Goals as goal
 
 either_way : (test : GridPoint → Bool) (w : PlainWalk) (b : Bool) → list_all test (points_of w) ≡ true → list_all test (points_of (cond b w (reversed_walk w))) ≡ true
 either_way test w true all = all

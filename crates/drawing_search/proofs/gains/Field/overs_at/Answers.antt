@@ -4,7 +4,7 @@ use Rattle.std.proofs.lemmas.List.FromFn.{fill_by_all}
 use Rattle.drawing_weights.specs.Scales.{scale_of}
 use Rattle.walk_search.specs.Moves.{direction}
 use Rattle.drawing_search.specs.Bounds.{overs_by, IsSmallOver}
-use Rattle.drawing_search.proofs.least.Field.overs_at.Goals as goal
+use Rattle.drawing_search.proofs.gains.Field.overs_at.Goals as goal
 
 pub loop-i-init : goal.loop-i-init
 loop-i-init c = record { each = refl; values = λ k less. absurd (omega (arith, less)); small = λ k less. absurd (omega (arith, less)) }

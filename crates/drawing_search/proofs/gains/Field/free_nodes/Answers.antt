@@ -7,7 +7,7 @@ use Rattle.run_laying.specs.Attempts.{inner_nodes}
 use Rattle.drawing_search.specs.Least.{free_nodes, is_free_node}
 use Rattle.drawing_search.proofs.RunEnds.{inner_end, inner_more}
 use Rattle.drawing_search.proofs.RunReads.{no_step}
-use Rattle.drawing_search.proofs.least.Field.free_nodes.Goals as goal
+use Rattle.drawing_search.proofs.gains.Field.free_nodes.Goals as goal
 
 -- one node more, which is free or not
 one_more : (scale : Scale) (graph : GraphParts) (ts : List ChainStep) (i : ℕ) (b : Bool) → 1 ≤ i → i < length ts → is_free_node scale graph (get_or ts (i - 1) no_step).to ≡ b
