@@ -10,4 +10,5 @@ mod ChainRuns
 mod Fitting
 -- runs by their places, and what straightening promises
 mod Places
+mod Pushed
 mod Promised

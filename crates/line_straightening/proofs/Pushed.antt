@@ -1,0 +1,76 @@
+-- Groups that are listed one after another, and their attempts.
+use Rattle.std.proofs.Common.{◌≡◌, refl, sym, ◌∙◌, ap, ℕ, ◌+◌, ◌<◌, Bool, true, false, cond, List, [], ◌∷◌, ◌++◌, length, filter, map, drop, get_or, append_assoc, append-nil, arith}
+use Rattle.std.proofs.lemmas.List.{drop_more, flat_map_more}
+use Rattle.std.proofs.lemmas.List.Elements.{filter-append}
+use Rattle.std.proofs.lemmas.List.FromFn.{map-range_with_len_more}
+use Rattle.std.specs.List.{flat_map, range_with_len}
+use Rattle.map_base.specs.declared.ids.NodeId.{NodeId}
+use Rattle.line_chains.specs.declared.chain.Chain.{Chain}
+use Rattle.line_chains.specs.Chains.{is_corner}
+use Rattle.run_laying.specs.Attempts.{Attempt}
+use Rattle.run_laying.specs.Searches.{attempts_alone}
+use Rattle.drawing_search.specs.declared.group.Group.{Group}
+use Rattle.drawing_search.specs.Searched.{attempts_in, attempts_of}
+use Rattle.line_straightening.specs.Groups.{all_nodes}
+
+pub one_group_more : (gs : List Group) (g : Group) → attempts_of (gs ++ g ∷ []) ≡ attempts_of gs ++ attempts_in g
+one_group_more gs g = sym (flat_map_more attempts_in [] gs g)
+
+-- a group for each of some
+pub push_more : {X : Type 0} (F : X → List Attempt) (xs : List X) (i : ℕ) (d : X) (gs new : List Group) (g : Group) → i < length xs → attempts_in g ≡ F (get_or xs i d) → new ≡ gs ++ g ∷ []
+    → attempts_of new ++ flat_map F (drop (i + 1) xs) ≡ attempts_of gs ++ flat_map F (drop i xs)
+push_more F xs i d gs new g h is pushed =
+    ap (λ (v : List Group). attempts_of v ++ flat_map F (drop (i + 1) xs)) pushed
+    ∙ ap (λ (v : List Attempt). v ++ flat_map F (drop (i + 1) xs)) (one_group_more gs g ∙ ap (λ (v : List Attempt). attempts_of gs ++ v) is)
+    ∙ append_assoc (attempts_of gs) (F (get_or xs i d)) (flat_map F (drop (i + 1) xs))
+    ∙ sym (ap (λ ys. attempts_of gs ++ flat_map F ys) (drop_more xs i d h))
+
+-- each by itself
+abbrev pub alone : Chain → List Attempt
+alone c = attempts_alone c ∷ []
+
+pub all_alone : (cs : List Chain) → flat_map alone cs ≡ map attempts_alone cs
+all_alone [] = refl
+all_alone (c ∷ cs) = ap (λ (v : List Attempt). attempts_alone c ∷ v) (all_alone cs)
+
+-- nodes by their numbers
+pub one_node_more : (n : ℕ) → all_nodes (n + 1) ≡ all_nodes n ++ record { 0 = n } ∷ []
+one_node_more n = map-range_with_len_more (λ i. (let m : NodeId = record { 0 = i } in m)) 0 n n (omega arith)
+
+-- a group for each node
+pub push_node_more : (F : NodeId → List Attempt) (old : List Attempt) (gs new : List Group) (g : Group) (n : ℕ) → attempts_of gs ≡ old ++ flat_map F (all_nodes n) → attempts_in g ≡ F (record { 0 = n }) → new ≡ gs ++ g ∷ []
+    → attempts_of new ≡ old ++ flat_map F (all_nodes (n + 1))
+push_node_more F old gs new g n before is pushed =
+    ap attempts_of pushed
+    ∙ one_group_more gs g
+    ∙ ap (λ (v : List Attempt). v ++ attempts_in g) before
+    ∙ ap (λ (v : List Attempt). (old ++ flat_map F (all_nodes n)) ++ v) is
+    ∙ flat_map_more F old (all_nodes n) (record { 0 = n })
+    ∙ ap (λ (ns : List NodeId). old ++ flat_map F ns) (sym (one_node_more n))
+
+-- or for each that is a corner
+corners_split : (corners : List Bool) (n : ℕ) (b : Bool) → is_corner corners (record { 0 = n }) ≡ b
+    → filter (is_corner corners) (all_nodes (n + 1)) ≡ cond b (filter (is_corner corners) (all_nodes n) ++ record { 0 = n } ∷ []) (filter (is_corner corners) (all_nodes n))
+corners_split corners n b e =
+    ap (filter (is_corner corners)) (one_node_more n)
+    ∙ filter-append (is_corner corners) (all_nodes n) (record { 0 = n } ∷ [])
+    ∙ ap (λ t. filter (is_corner corners) (all_nodes n) ++ cond t (record { 0 = n } ∷ []) []) e
+    ∙ by_test b
+  where
+    by_test : (t : Bool) → filter (is_corner corners) (all_nodes n) ++ cond t (record { 0 = n } ∷ []) [] ≡ cond t (filter (is_corner corners) (all_nodes n) ++ record { 0 = n } ∷ []) (filter (is_corner corners) (all_nodes n))
+    by_test true = refl
+    by_test false = append-nil (filter (is_corner corners) (all_nodes n))
+
+pub push_corner_more : (corners : List Bool) (F : NodeId → List Attempt) (old : List Attempt) (gs new : List Group) (g : Group) (n : ℕ) → is_corner corners (record { 0 = n }) ≡ true → attempts_of gs ≡ old ++ flat_map F (filter (is_corner corners) (all_nodes n))
+    → attempts_in g ≡ F (record { 0 = n }) → new ≡ gs ++ g ∷ [] → attempts_of new ≡ old ++ flat_map F (filter (is_corner corners) (all_nodes (n + 1)))
+push_corner_more corners F old gs new g n e before is pushed =
+    ap attempts_of pushed
+    ∙ one_group_more gs g
+    ∙ ap (λ (v : List Attempt). v ++ attempts_in g) before
+    ∙ ap (λ (v : List Attempt). (old ++ flat_map F (filter (is_corner corners) (all_nodes n))) ++ v) is
+    ∙ flat_map_more F old (filter (is_corner corners) (all_nodes n)) (record { 0 = n })
+    ∙ ap (λ (ns : List NodeId). old ++ flat_map F ns) (sym (corners_split corners n true e))
+
+pub pass_corner_more : (corners : List Bool) (F : NodeId → List Attempt) (old found : List Attempt) (n : ℕ) → is_corner corners (record { 0 = n }) ≡ false → found ≡ old ++ flat_map F (filter (is_corner corners) (all_nodes n))
+    → found ≡ old ++ flat_map F (filter (is_corner corners) (all_nodes (n + 1)))
+pass_corner_more corners F old found n e before = before ∙ ap (λ (ns : List NodeId). old ++ flat_map F ns) (sym (corners_split corners n false e))
