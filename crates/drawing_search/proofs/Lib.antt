@@ -56,3 +56,4 @@ mod TriedGroups
 mod GroupOf
 mod Passes
 mod Searches
+mod Beginning

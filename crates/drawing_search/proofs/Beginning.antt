@@ -1,0 +1,94 @@
+-- A search begins with a whole drawing on its board.
+use Rattle.std.proofs.Common.{◌≡◌, refl, sym, ◌∙◌, ap, subst, ℕ, zero, suc, ◌+◌, ◌≤◌, Bool, true, not, List, [], ◌∷◌, length, map, get_or, replicate, Option, Some, None, arith}
+use Rattle.std.proofs.Math.ListN.{get_or-map}
+use Rattle.std.proofs.lemmas.List.{length-map}
+use Rattle.std.proofs.lemmas.List.FromFn.{fill_by_all, length-map-range_with_len}
+use Rattle.std.specs.List.{filter_map, range_with_len}
+use Rattle.graph_core.specs.declared.parts.GraphParts.{GraphParts}
+use Rattle.graph_core.specs.Consistent.{IsConsistent}
+use Rattle.octi_grid.specs.declared.dir.Dir.TheVariants as dir
+use Rattle.octi_grid.specs.Walks.{PlainWalk}
+use Rattle.grid_board.specs.declared.bounds.Bounds.{Bounds}
+use Rattle.segment_router.proofs.SettledLemmas.{nowhere}
+use Rattle.drawing_weights.specs.Drawn.{points_all}
+use Rattle.drawing_weights.specs.Scales.{weight_by, Scale}
+use Rattle.drawing_weights.specs.Weights.{point_of}
+use Rattle.run_laying.specs.Attempts.{improving, is_inner, walk_beside, without_runs, Attempt}
+use Rattle.run_laying.specs.Drawings.{IsOnBoard}
+use Rattle.run_laying.specs.Laying.{Sketch}
+use Rattle.run_laying.specs.Runs.{IsFitting}
+use Rattle.run_laying.specs.Searches.{after_passes}
+use Rattle.run_laying.proofs.Kept.{kept_sketch}
+use Rattle.drawing_search.specs.declared.group.Group.{Group}
+use Rattle.drawing_search.specs.Gains.{sketch_weight}
+use Rattle.drawing_search.specs.Searched.{attempts_of}
+use Rattle.drawing_search.specs.Shown.{whole_sketch}
+use Rattle.drawing_search.specs.Tries.{IsSettled}
+use Rattle.drawing_search.specs.Trying.{walks_of, IsWhole}
+use Rattle.drawing_search.proofs.OnWalks.{IsGood}
+use Rattle.drawing_search.proofs.Searches.{IsBetweenPasses}
+
+-- an attempt that changes nothing
+abbrev no_attempt : Attempt
+no_attempt = record { nodes = []; dir = dir.N; count = 0; runs = [] }
+
+no_attempt_fits : (graph : GraphParts) → IsFitting graph no_attempt
+no_attempt_fits graph = record {
+  runs = λ i d h. absurd (omega (arith, h));
+  beside = tt;
+  nodes = λ i d h. absurd (omega (arith, h));
+  ends = λ i d h. absurd (omega (arith, h));
+  all = λ i d h. absurd (omega (arith, h));
+  even = refl;
+}
+
+all_true : (a n : ℕ) → map (λ (i : ℕ). true) (range_with_len a n) ≡ replicate n true
+all_true a zero = refl
+all_true a (suc n) = ap (λ (bs : List Bool). true ∷ bs) (all_true (a + 1) n)
+
+walks_back : (ws : List PlainWalk) → filter_map (λ (o : Option PlainWalk). o) (map (λ (w : PlainWalk). Some w) ws) ≡ ws
+walks_back [] = refl
+walks_back (w ∷ ws) = ap (λ (vs : List PlainWalk). w ∷ vs) (walks_back ws)
+
+module _ (graph : GraphParts) (fit : IsConsistent graph) (bounds : Bounds) (ws : List PlainWalk) (on_board : IsOnBoard graph bounds ws) where
+  abbrev no_walk : PlainWalk
+  no_walk = record { start = nowhere; steps = [] }
+
+  walks_same : map (λ (w : PlainWalk). Some w) ws ≡ map (walk_beside ws []) (range_with_len 0 (length graph.ends))
+  walks_same =
+      fill_by_all (λ s. Some (get_or ws s no_walk)) (map (λ (w : PlainWalk). Some w) ws) (length graph.ends) None (length-map ws (λ (w : PlainWalk). Some w) ∙ on_board.drawn.each)
+      (λ s h. get_or-map (λ (w : PlainWalk). Some w) ws s no_walk None (omega (arith, h, on_board.drawn.each)))
+
+  stand_same : replicate (length (points_all graph ws)) true ≡ map (λ n. not (is_inner [] n)) (range_with_len 0 (length graph.kinds))
+  stand_same = ap (λ n. replicate n true) (length-map-range_with_len (point_of graph ws) 0 (length graph.kinds)) ∙ sym (all_true 0 (length graph.kinds))
+
+  whole_is : without_runs graph bounds ws no_attempt ≡ whole_sketch bounds (points_all graph ws) ws
+  whole_is =
+      sym (ap (λ (fs : List Bool). (let j : Sketch = record { bounds = bounds; points = points_all graph ws; stand = fs; walks = map (λ (w : PlainWalk). Some w) ws } in j)) stand_same
+      ∙ ap (λ (os : List (Option PlainWalk)). (let j : Sketch = record { bounds = bounds; points = points_all graph ws; stand = map (λ n. not (is_inner [] n)) (range_with_len 0 (length graph.kinds)); walks = os } in j)) walks_same)
+
+  pub whole_good : IsGood graph bounds (whole_sketch bounds (points_all graph ws) ws)
+  whole_good =
+      let kept = kept_sketch graph fit bounds ws on_board no_attempt (no_attempt_fits graph) (without_runs graph bounds ws no_attempt) refl in
+      subst (IsGood graph bounds) whole_is (record { legal = kept.legal; complete = kept.complete; bounds_same = kept.bounds_same })
+
+  pub whole_whole : IsWhole (whole_sketch bounds (points_all graph ws) ws)
+  whole_whole = record {
+    nodes = λ n below. whole_good.complete.nodes n (omega (arith, below, whole_good.legal.stand_each));
+    walks = λ i below. whole_good.complete.walks i (omega (arith, below, whole_good.legal.walks_each));
+  }
+
+  pub walks_kept : walks_of (whole_sketch bounds (points_all graph ws) ws) ≡ ws
+  walks_kept = walks_back ws
+
+  -- all passes are left
+  pub search_begins : (scale : Scale) (groups : List Group) (at_once most before : ℕ) → before ≡ sketch_weight scale graph (points_all graph ws) (whole_sketch bounds (points_all graph ws) ws) → before ≤ 144115188075855872
+      → IsBetweenPasses scale graph ws bounds groups at_once most before (whole_sketch bounds (points_all graph ws) ws) before 0
+  search_begins scale groups at_once most before is small = record {
+    settled = record { legal = whole_good.legal; whole = whole_whole; weight_is = is; small = small };
+    good = whole_good;
+    passes = most;
+    enough = (omega arith, ap (λ (vs : List PlainWalk). after_passes (improving graph bounds (weight_by scale graph ws)) (attempts_of groups) at_once most most (record { walks = vs; made = 0 })) walks_kept);
+    few = omega arith;
+    no_heavier = omega arith;
+  }
