@@ -1,7 +1,6 @@
--- A search begins with a whole drawing on its board.
+-- A search begins with a whole drawing on its board, and ends with one.
 use Rattle.std.proofs.Common.{◌≡◌, refl, sym, ◌∙◌, ap, subst, ℕ, zero, suc, ◌+◌, ◌≤◌, Bool, true, not, List, [], ◌∷◌, length, map, get_or, replicate, Option, Some, None, arith}
-use Rattle.std.proofs.Math.ListN.{get_or-map}
-use Rattle.std.proofs.lemmas.List.{length-map}
+use Rattle.std.proofs.lemmas.List.{get_or-map, length-map}
 use Rattle.std.proofs.lemmas.List.FromFn.{fill_by_all, length-map-range_with_len}
 use Rattle.std.specs.List.{filter_map, range_with_len}
 use Rattle.graph_core.specs.declared.parts.GraphParts.{GraphParts}
@@ -10,22 +9,24 @@ use Rattle.octi_grid.specs.declared.dir.Dir.TheVariants as dir
 use Rattle.octi_grid.specs.Walks.{PlainWalk}
 use Rattle.grid_board.specs.declared.bounds.Bounds.{Bounds}
 use Rattle.segment_router.proofs.SettledLemmas.{nowhere}
-use Rattle.drawing_weights.specs.Drawn.{points_all}
+use Rattle.drawing_weights.specs.Drawn.{points_all, IsDrawn}
 use Rattle.drawing_weights.specs.Scales.{weight_by, Scale}
 use Rattle.drawing_weights.specs.Weights.{point_of}
-use Rattle.run_laying.specs.Attempts.{improving, is_inner, walk_beside, without_runs, Attempt}
+use Rattle.run_laying.specs.Attempts.{bounds_past, improving, is_inner, walk_beside, without_runs, Attempt}
 use Rattle.run_laying.specs.Drawings.{IsOnBoard}
 use Rattle.run_laying.specs.Laying.{Sketch}
 use Rattle.run_laying.specs.Runs.{IsFitting}
-use Rattle.run_laying.specs.Searches.{after_passes}
+use Rattle.run_laying.specs.Searches.{after_passes, searched, Found}
 use Rattle.run_laying.proofs.Kept.{kept_sketch}
+use Rattle.run_laying.proofs.Whole.{whole_legal}
 use Rattle.drawing_search.specs.declared.group.Group.{Group}
+use Rattle.drawing_search.specs.declared.searching.Searched.{Searched}
 use Rattle.drawing_search.specs.Gains.{sketch_weight}
-use Rattle.drawing_search.specs.Searched.{attempts_of}
+use Rattle.drawing_search.specs.Searched.{attempts_of, IsSearched}
 use Rattle.drawing_search.specs.Shown.{whole_sketch}
 use Rattle.drawing_search.specs.Tries.{IsSettled}
 use Rattle.drawing_search.specs.Trying.{walks_of, IsWhole}
-use Rattle.drawing_search.proofs.OnWalks.{IsGood}
+use Rattle.drawing_search.proofs.OnWalks.{same_weight, sketch_by_walks, IsGood}
 use Rattle.drawing_search.proofs.Searches.{IsBetweenPasses}
 
 -- an attempt that changes nothing
@@ -91,4 +92,24 @@ module _ (graph : GraphParts) (fit : IsConsistent graph) (bounds : Bounds) (ws :
     enough = (omega arith, ap (λ (vs : List PlainWalk). after_passes (improving graph bounds (weight_by scale graph ws)) (attempts_of groups) at_once most most (record { walks = vs; made = 0 })) walks_kept);
     few = omega arith;
     no_heavier = omega arith;
+  }
+
+module _ (graph : GraphParts) (fit : IsConsistent graph) (scale : Scale) (margin : ℕ) (first : List PlainWalk) (attempts : List Attempt) (at_once most : ℕ) (drawn : IsDrawn graph first) where
+  -- what a whole legal sketch on the board weighs
+  kept_weighs : (k : Sketch) → IsGood graph (bounds_past margin first) k → sketch_weight scale graph (points_all graph first) k ≡ weight_by scale graph first (walks_of k)
+  kept_weighs k good =
+      ap (sketch_weight scale graph (points_all graph first)) (sketch_by_walks graph fit k good.legal good.complete)
+      ∙ same_weight graph fit k.bounds (walks_of k) (whole_legal graph fit k good.legal good.complete).drawn scale first
+
+  pub search_ends : (k : Sketch) (weight made before : ℕ) (s : Searched) → IsGood graph (bounds_past margin first) k → weight ≡ sketch_weight scale graph (points_all graph first) k → weight ≤ before
+      → before ≡ sketch_weight scale graph (points_all graph first) (whole_sketch (bounds_past margin first) (points_all graph first) first)
+      → (let f : Found = record { walks = walks_of k; made = made } in f) ≡ searched graph scale margin attempts at_once most first
+      → s.drawing.walks ≡ walks_of k → s.made ≡ made → s.before ≡ before → s.after ≡ weight → IsSearched graph scale margin attempts at_once most first s
+  search_ends k weight made before s good weighs lighter first_weighs found drawing_is made_is before_is after_is = record {
+    drawing = drawing_is ∙ ap (λ (f : Found). f.walks) found;
+    made = made_is ∙ ap (λ (f : Found). f.made) found;
+    before = before_is ∙ first_weighs ∙ same_weight graph fit (bounds_past margin first) first drawn scale first;
+    after = after_is ∙ weighs ∙ kept_weighs k good ∙ ap (weight_by scale graph first) (sym drawing_is);
+    on_board = subst (IsOnBoard graph (bounds_past margin first)) (sym drawing_is) (subst (λ (b : Bounds). IsOnBoard graph b (walks_of k)) good.bounds_same (whole_legal graph fit k good.legal good.complete));
+    no_heavier = omega (arith, lighter, before_is, after_is);
   }
