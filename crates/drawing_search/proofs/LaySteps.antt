@@ -2,7 +2,7 @@
 use Rattle.std.proofs.Common.{◌≡◌, refl, sym, ◌∙◌, ap, subst, ℕ, ◌+◌, ◌<◌, ◌≤◌, ◌⊎◌, inl, inr, true, false, List, [], ◌∷◌, length, map, get_or, Some, None, arith}
 use Rattle.std.proofs.lemmas.Bool.{cases_lt, leb-true}
 use Rattle.std.proofs.lemmas.List.FromFn.{get_or-map-range_with_len}
-use Rattle.std.specs.List.{range_with_len}
+use Rattle.std.specs.List.{list_all, range_with_len}
 use Rattle.std.specs.Prelude.{nat_le}
 use Rattle.map_base.specs.declared.ids.NodeId.{NodeId}
 use Rattle.graph_core.specs.declared.parts.GraphParts.{GraphParts}
@@ -15,6 +15,7 @@ use Rattle.octi_grid.specs.declared.point.GridPoint.{GridPoint}
 use Rattle.octi_grid.specs.Ways.{points_from}
 use Rattle.octi_grid.specs.Walks.{points_of, IsWalk, PlainWalk}
 use Rattle.octi_grid.specs.Legal.{is_even}
+use Rattle.grid_board.specs.Boards.{contains}
 use Rattle.segment_router.proofs.Places.{all_in}
 use Rattle.walk_search.specs.Routes.{if_within}
 use Rattle.run_laying.specs.Attempts.{inner_nodes}
@@ -23,11 +24,12 @@ use Rattle.run_laying.specs.Pieces.{cut_place, even_steps, piece_of, pieces_of, 
 use Rattle.run_laying.specs.Runs.{IsRun}
 use Rattle.run_laying.specs.Sketches.{is_standing, walk_in, IsFreeFor, IsLegalSketch}
 use Rattle.run_laying.proofs.Attempted.{laying_of, IsClearFor}
-use Rattle.run_laying.proofs.EvenCuts.{cuts_of, AreCuts}
+use Rattle.run_laying.proofs.EvenCuts.{cuts_of, length-points, AreCuts}
 use Rattle.run_laying.proofs.FreeRoutes.{free_of_route}
 use Rattle.run_laying.proofs.Piecewise.{IsFreeWalk}
 use Rattle.drawing_search.specs.Tracks.{piece_along, IsTrack}
 use Rattle.drawing_search.proofs.Laid.{within_some, IsLayingFrom}
+use Rattle.drawing_search.proofs.Nearby.{short_inside}
 
 pub clear_of : (k : Sketch) (c : Chain) → IsFreeFor k c → IsClearFor k c
 clear_of k c free = record {
@@ -38,15 +40,15 @@ clear_of k c free = record {
 }
 
 -- the track of a walk
+first_point : (p : GridPoint) (ds : List Dir) → point_at (points_from p ds) 0 ≡ p
+first_point p [] = refl
+first_point p (d ∷ ds) = refl
+
 pub track_of : (w : PlainWalk) → IsWalk w → IsTrack (points_of w) w.steps
 track_of w is = record { walk = subst IsWalk (sym same) is; points_are = ap (λ (p : GridPoint). points_from p w.steps) (sym first) }
   where
     first : point_at (points_of w) 0 ≡ w.start
-    first = by_steps w.steps
-      where
-        by_steps : (ds : List Dir) → point_at (points_from w.start ds) 0 ≡ w.start
-        by_steps [] = refl
-        by_steps (d ∷ ds) = refl
+    first = first_point w.start w.steps
 
     same : (let v : PlainWalk = record { start = point_at (points_of w) 0; steps = w.steps } in v) ≡ w
     same = ap (λ (p : GridPoint). (let v : PlainWalk = record { start = p; steps = w.steps } in v)) first
@@ -57,6 +59,19 @@ module _ (graph : GraphParts) (fit : IsConsistent graph) (k : Sketch) (h : IsLeg
 
   pub start_even : is_even w.start ≡ true
   start_even = ap is_even free_walk.start ∙ h.even c.from.0 free.from
+
+  -- its points may be cut
+  pub some_points : 0 < length (points_of w)
+  some_points = omega (arith, length-points w.start w.steps)
+
+  pub few_points : length (points_of w) < 2147483648
+  few_points = let short = short_inside k.bounds h.bounds w free_walk.once free_walk.within in omega (arith, length-points w.start w.steps, short)
+
+  pub first_even : is_even (point_at (points_of w) 0) ≡ true
+  first_even = ap is_even (first_point w.start w.steps) ∙ start_even
+
+  pub points_inside : list_all (contains k.bounds) (points_of w) ≡ true
+  points_inside = free_walk.within
 
   module _ (enough : nat_le (length c.steps) (even_steps (points_of w)) ≡ true) where
     cuts : AreCuts w (cut_place (points_of w) (length c.steps)) (length c.steps)

@@ -80,7 +80,7 @@ module _ (b : Bounds) where
       by_place (inl h) here rest = omega (arith, eqb-true n (cell_of b p) h, here)
       by_place (inr h) here rest = rest h
 
-  short_inside : AreBounds b → (w : PlainWalk) → are_distinct (doubled_of w) ≡ true → list_all (contains b) (points_of w) ≡ true → IsShort w
+  pub short_inside : AreBounds b → (w : PlainWalk) → are_distinct (doubled_of w) ≡ true → list_all (contains b) (points_of w) ≡ true → IsShort w
   short_inside h w once within =
       let ps = points_of w in
       let few = length-le_from_distinct_below (map (cell_of b) ps) (cells_of b) (numbers_distinct ps within (distinct_points w.start w.steps once)) (λ n. numbers_below ps n within) in

@@ -24,7 +24,9 @@ impl Track {
     pub(crate) fn of(alloc: Global, walk: &Walk) -> Result<Track, NoMemory>
         ensures points { IfOk result (λ t. t.points.items ≡ points_of walk.now) }
         ensures steps { IfOk result (λ t. t.steps.items ≡ walk.now.steps) }
+        ensures track { IfOk result (λ t. IsTrack t.points.items t.steps.items) }
     {
+        let _runs = walk.runs();
         let mut points = Vec::new(alloc);
         push_points(&mut points, walk)?;
         let steps = steps_of(alloc, walk)?;
