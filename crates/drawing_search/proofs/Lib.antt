@@ -8,7 +8,7 @@ mod TakenOff
 mod OnSketches
 -- walks step by step, and runs that are laid along a walk that is cut
 mod Steps
-pub mod Ranges
+mod Ranges
 mod Farther
 mod WalksOff
 mod RunEnds

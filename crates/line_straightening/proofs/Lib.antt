@@ -8,7 +8,6 @@ mod Corners
 mod ChainRuns
 -- so the attempts of a pass fit the graph
 mod Fitting
--- runs by their places, and what straightening promises
-mod Places
+-- groups one after another, and what straightening promises
 mod Pushed
 mod Promised

@@ -1,5 +1,5 @@
--- Groups of attempts in their order, and the runs that end at nodes.
-use Rattle.std.specs.Prelude.{◌≡◌, ◌<◌, ◌≤◌, ◌==◌, ◌||◌, ℕ, Bool, List, [], length, map, filter, All, slice_index_or}
+-- Groups of attempts in their order.
+use Rattle.std.specs.Prelude.{◌≡◌, ◌<◌, ◌≤◌, ℕ, List, length, map, All}
 use Rattle.std.specs.List.{range_with_len}
 use Rattle.map_base.specs.declared.ids.NodeId.{NodeId}
 use Rattle.graph_core.specs.declared.parts.GraphParts.{GraphParts}
@@ -10,25 +10,6 @@ use Rattle.run_laying.specs.Runs.{IsFitting, IsRun}
 use Rattle.drawing_search.specs.declared.group.Group.{Group}
 use Rattle.drawing_search.specs.Changes.{AreApart}
 use Rattle.drawing_search.specs.Searched.{attempts_of}
-
--- the run at a place of a list
-abbrev pub run_at : List Chain → ℕ → Chain
-run_at runs i = slice_index_or runs i (record { from = record { 0 = 0 }; steps = [] })
-
--- a run ends at node n, or begins there
-abbrev pub ends_at : ℕ → Chain → Bool
-ends_at n c = c.from.0 == n || (end_of c).0 == n
-
--- the places of runs that do, rising, and those of runs that do at either of two nodes
-abbrev pub places_at : List Chain → ℕ → List ℕ
-places_at runs n = filter (λ i. ends_at n (run_at runs i)) (range_with_len 0 (length runs))
-
-abbrev pub places_at_both : List Chain → ℕ → ℕ → List ℕ
-places_at_both runs n m = filter (λ i. ends_at n (run_at runs i) || ends_at m (run_at runs i)) (range_with_len 0 (length runs))
-
--- the same for each of so many nodes
-abbrev pub all_places : List Chain → ℕ → List (List ℕ)
-all_places runs nodes = map (places_at runs) (range_with_len 0 nodes)
 
 -- so many nodes, in order
 abbrev pub all_nodes : ℕ → List NodeId

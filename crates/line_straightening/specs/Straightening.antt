@@ -20,9 +20,13 @@ straight_scale corners = record { turns = 12; overs = 12; aparts = 1; is_held = 
 abbrev pub single_runs : GraphParts → List Chain
 single_runs graph = map (λ s. run_of graph (record { 0 = s })) (range_with_len 0 (length graph.ends))
 
--- the runs that end at one of these nodes
+-- a run ends at one of these nodes, or begins there
+abbrev pub ends_at : List NodeId → Chain → Bool
+ends_at nodes c = has_node nodes c.from.0 || has_node nodes (end_of c).0
+
+-- those that do
 abbrev pub runs_at : List NodeId → List Chain → List Chain
-runs_at nodes runs = filter (λ (c : Chain). has_node nodes c.from.0 || has_node nodes (end_of c).0) runs
+runs_at nodes runs = filter (ends_at nodes) runs
 
 -- nodes move together by 2, 4, 6 or 8 steps, and all runs that end at one of them are laid anew
 abbrev pub moves_of : List Chain → List NodeId → List Attempt

@@ -1,11 +1,9 @@
 //! Runs, and those that end at nodes.
 
-ghost use Rattle.std.specs.Prelude.{◌≡◌, ◌≢◌, ◌<◌, ◌↔◌, ◌⊎◌, ◌++◌, ◌∷◌, [], ℕ, length, map, slice_index_or, slice_set, vec_items, All, Contains, IfOk, IsStrictlySorted, OnOk};
-ghost use Rattle.line_chains.specs.declared.chain.Chain.{Chain};
+ghost use Rattle.std.specs.Prelude.{◌≡◌, ◌<◌, ◌++◌, ◌∷◌, [], if◌then◌else◌, length, IfOk, OnOk};
 ghost use Rattle.line_chains.specs.Chains.{end_of};
-ghost use Rattle.run_laying.specs.Attempts.{run_of};
-ghost use Rattle.line_straightening.specs.Groups.{all_places, run_at};
-ghost use Rattle.line_straightening.specs.Straightening.{single_runs};
+ghost use Rattle.run_laying.specs.Attempts.{has_node, run_of};
+ghost use Rattle.line_straightening.specs.Straightening.{ends_at, runs_at, single_runs};
 
 use graph_core::LineGraph;
 use line_chains::{Chain, ChainStep};
@@ -29,10 +27,11 @@ fn run_of(alloc: Global, graph: &LineGraph, s: SegId) -> Result<Chain, NoMemory>
     ensures { IfOk result (λ run. run ≡ run_of graph.now s) }
 {
     let (low, up) = graph.ends(s);
-    let step = ChainStep { seg: s, to: up };
+    let mut steps = Vec::new(alloc);
+    steps.push(ChainStep { seg: s, to: up })?;
     Ok(Chain {
         from: low,
-        steps: Sequence::of(vec![in alloc; step; 1]?),
+        steps: Sequence::of(steps),
     })
 }
 
@@ -46,51 +45,56 @@ pub(crate) fn end_of(run: &Chain) -> NodeId
     }
 }
 
-/// The runs that end at each node, by their places in a list, rising; one list for each node.
-pub(crate) fn runs_at_nodes(
+/// The runs that end at one of these nodes, in their order.
+pub(crate) fn runs_at(
     alloc: Global,
-    nodes: u32,
+    nodes: &[NodeId],
     runs: &[Chain],
-) -> Result<Vec<Vec<usize>>, NoMemory>
-    requires from { All (λ (c : Chain). c.from.0 < nodes) runs.now }
-    requires to { All (λ (c : Chain). (end_of c).0 < nodes) runs.now }
-    requires apart { All (λ (c : Chain). c.from.0 ≢ (end_of c).0) runs.now }
-    ensures { IfOk result (λ at. map vec_items at.items ≡ all_places runs.now nodes) }
+) -> Result<Vec<Chain>, NoMemory>
+    ensures { IfOk result (λ found. found.items ≡ runs_at nodes.now runs.now) }
 {
-    let mut at = Vec::with_capacity(alloc, nodes as usize)?;
-    for _ in 0..nodes {
-        at.push(Vec::new(alloc))?;
+    let mut found = Vec::new(alloc);
+    for run in runs {
+        push_if_at(alloc, nodes, run, &mut found)?;
     }
-    for i in 0..runs.len() {
-        push_at(&mut at, runs[i].from, i)?;
-        push_at(&mut at, end_of(&runs[i]), i)?;
-    }
-    Ok(at)
+    Ok(found)
 }
 
-/// Lists a place at a node.
-fn push_at(at: &mut Vec<Vec<usize>>, n: NodeId, place: usize) -> Result<(), NoMemory>
-    requires { n.0 < length at.old.items }
-    ensures { OnOk result (map vec_items at.new.items ≡ slice_set (map vec_items at.old.items) n.0 (slice_index_or (map vec_items at.old.items) n.0 [] ++ place ∷ [])) }
+/// Lists a run, if it ends at one of these nodes.
+fn push_if_at(
+    alloc: Global,
+    nodes: &[NodeId],
+    run: &Chain,
+    found: &mut Vec<Chain>,
+) -> Result<(), NoMemory>
+    ensures { OnOk result (found.new.items ≡ (if ends_at nodes.now run.now then found.old.items ++ run.now ∷ [] else found.old.items)) }
 {
-    at[n.0 as usize].push(place)?;
+    if ends_at(nodes, run) {
+        found.push(copy_of(alloc, run)?)?;
+    }
     Ok(())
 }
 
-/// Copies of runs, by their places in a list.
-pub(crate) fn copies_of(
-    alloc: Global,
-    runs: &[Chain],
-    places: &[usize],
-) -> Result<Vec<Chain>, NoMemory>
-    requires { All (λ i. i < length runs.now) places.now }
-    ensures { IfOk result (λ copies. copies.items ≡ map (run_at runs.now) places.now) }
+/// Whether a run ends at one of these nodes.
+fn ends_at(nodes: &[NodeId], run: &Chain) -> bool
+    ensures { result ≡ ends_at nodes.now run.now }
 {
-    let mut copies = Vec::with_capacity(alloc, places.len())?;
-    for i in places {
-        copies.push(copy_of(alloc, &runs[*i])?)?;
+    if has_node(nodes, run.from) {
+        return true;
     }
-    Ok(copies)
+    has_node(nodes, end_of(run))
+}
+
+/// Whether a node is one of these.
+fn has_node(nodes: &[NodeId], n: NodeId) -> bool
+    ensures { result ≡ has_node nodes.now n.0 }
+{
+    for m in nodes {
+        if m.0 == n.0 {
+            return true;
+        }
+    }
+    false
 }
 
 /// A copy of a run.
@@ -101,21 +105,4 @@ pub(crate) fn copy_of(alloc: Global, run: &Chain) -> Result<Chain, NoMemory>
         from: run.from,
         steps: Sequence::of(run.steps.as_slice().to_vec(alloc)?),
     })
-}
-
-/// The numbers of two rising lists, each once, rising.
-pub(crate) fn merged(alloc: Global, a: &[usize], b: &[usize]) -> Result<Vec<usize>, NoMemory>
-    requires a { IsStrictlySorted a.now }
-    requires b { IsStrictlySorted b.now }
-    ensures rising { IfOk result (λ all. IsStrictlySorted all.items) }
-    ensures both { IfOk result (λ all. (i : ℕ) → Contains all.items i ↔ (Contains a.now i ⊎ Contains b.now i)) }
-{
-    let mut all = a.to_vec(alloc)?;
-    for i in b {
-        if !a.contains(i) {
-            all.push(*i)?;
-        }
-    }
-    all.sort()?;
-    Ok(all)
 }
