@@ -61,16 +61,18 @@ corners_split corners n b e =
     by_test true = refl
     by_test false = append-nil (filter (is_corner corners) (all_nodes n))
 
-pub push_corner_more : (corners : List Bool) (F : NodeId → List Attempt) (old : List Attempt) (gs new : List Group) (g : Group) (n : ℕ) → is_corner corners (record { 0 = n }) ≡ true → attempts_of gs ≡ old ++ flat_map F (filter (is_corner corners) (all_nodes n))
-    → attempts_in g ≡ F (record { 0 = n }) → new ≡ gs ++ g ∷ [] → attempts_of new ≡ old ++ flat_map F (filter (is_corner corners) (all_nodes (n + 1)))
-push_corner_more corners F old gs new g n e before is pushed =
-    ap attempts_of pushed
-    ∙ one_group_more gs g
-    ∙ ap (λ (v : List Attempt). v ++ attempts_in g) before
-    ∙ ap (λ (v : List Attempt). (old ++ flat_map F (filter (is_corner corners) (all_nodes n))) ++ v) is
-    ∙ flat_map_more F old (filter (is_corner corners) (all_nodes n)) (record { 0 = n })
-    ∙ ap (λ (ns : List NodeId). old ++ flat_map F ns) (sym (corners_split corners n true e))
+pub corner_more : (corners : List Bool) (F : NodeId → List Attempt) (old before new : List Attempt) (n : ℕ) → before ≡ old ++ flat_map F (filter (is_corner corners) (all_nodes n))
+    → new ≡ before ++ cond (is_corner corners (record { 0 = n })) (F (record { 0 = n })) [] → new ≡ old ++ flat_map F (filter (is_corner corners) (all_nodes (n + 1)))
+corner_more corners F old before new n so_far is =
+    is
+    ∙ ap (λ (v : List Attempt). v ++ cond (is_corner corners (record { 0 = n })) (F (record { 0 = n })) []) so_far
+    ∙ by_test (is_corner corners (record { 0 = n }))
+    ∙ ap (λ (ns : List NodeId). old ++ flat_map F ns) (sym (corners_split corners n (is_corner corners (record { 0 = n })) refl))
+  where
+    kept : List NodeId
+    kept = filter (is_corner corners) (all_nodes n)
 
-pub pass_corner_more : (corners : List Bool) (F : NodeId → List Attempt) (old found : List Attempt) (n : ℕ) → is_corner corners (record { 0 = n }) ≡ false → found ≡ old ++ flat_map F (filter (is_corner corners) (all_nodes n))
-    → found ≡ old ++ flat_map F (filter (is_corner corners) (all_nodes (n + 1)))
-pass_corner_more corners F old found n e before = before ∙ ap (λ (ns : List NodeId). old ++ flat_map F ns) (sym (corners_split corners n false e))
+    by_test : (b : Bool) → (old ++ flat_map F (filter (is_corner corners) (all_nodes n))) ++ cond b (F (record { 0 = n })) []
+        ≡ old ++ flat_map F (cond b (filter (is_corner corners) (all_nodes n) ++ record { 0 = n } ∷ []) (filter (is_corner corners) (all_nodes n)))
+    by_test true = flat_map_more F old kept (record { 0 = n })
+    by_test false = append-nil (old ++ flat_map F kept)

@@ -1,6 +1,6 @@
 //! The groups of attempts, in their order.
 
-ghost use Rattle.std.specs.Prelude.{◌≡◌, ◌≢◌, ◌≤◌, ◌++◌, ◌∷◌, [], filter, length, map, All, IfOk, OnOk};
+ghost use Rattle.std.specs.Prelude.{◌≡◌, ◌≢◌, ◌<◌, ◌≤◌, ◌++◌, ◌∷◌, [], if◌then◌else◌, filter, length, map, All, IfOk, OnOk};
 ghost use Rattle.std.specs.List.{flat_map};
 ghost use Rattle.line_chains.specs.declared.chain.Chain.{Chain};
 ghost use Rattle.line_chains.specs.Chains.{chains_of, end_of, is_corner};
@@ -86,9 +86,26 @@ fn push_corners(
     ensures attempts { OnOk result (attempts_of groups.new.items ≡ attempts_of groups.old.items ++ flat_map (λ n. moves_of runs.now (n ∷ [])) (filter (is_corner corners.now) (all_nodes (length corners.now)))) }
 {
     for n in 0..corners.len() {
-        if corners.is_raised(n) {
-            groups.push(group_at(alloc, NodeId(n as u32), runs)?)?;
-        }
+        push_corner(alloc, corners, NodeId(n as u32), runs, groups)?;
+    }
+    Ok(())
+}
+
+/// Lists a node with the runs that end at it, if it is a corner.
+fn push_corner(
+    alloc: Global,
+    corners: &Flags,
+    n: NodeId,
+    runs: &[Chain],
+    groups: &mut Vec<Group>,
+) -> Result<(), NoMemory>
+    requires node { n.0 < length corners.now }
+    requires sound { All IsSound groups.old.items }
+    ensures sound { OnOk result (All IsSound groups.new.items) }
+    ensures attempts { OnOk result (attempts_of groups.new.items ≡ attempts_of groups.old.items ++ (if is_corner corners.now n then moves_of runs.now (n ∷ []) else [])) }
+{
+    if corners.is_raised(n.0 as usize) {
+        groups.push(group_at(alloc, n, runs)?)?;
     }
     Ok(())
 }
