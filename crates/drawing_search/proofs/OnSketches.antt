@@ -1,5 +1,6 @@
 -- A drawing in the making as it is kept: the flags of its board show the board that it has.
 use Rattle.std.proofs.Common.{◌≡◌, sym, ◌∙◌, ap, ap₂, subst, ◌<◌, Bool, true, false, List, length, set, Option, Some, None}
+use Rattle.std.proofs.lemmas.List.{set-get_or}
 use Rattle.std.specs.List.{list_all}
 use Rattle.map_base.specs.declared.ids.NodeId.{NodeId}
 use Rattle.map_base.specs.declared.ids.SegId.{SegId}
@@ -105,3 +106,14 @@ module _ (b : BoardFlags) (points : List GridPoint) (stand : List Bool) (walks :
 
       pub freed_view : sketch_of d points stand (set walks s.0 None) ≡ with_walk_of k s None
       freed_view = ap (λ (z : Bounds). (let x : Sketch = record { bounds = z; points = points; stand = stand; walks = set walks s.0 None } in x)) same_freed ∙ ap (λ (x : Sketch). with_walk_of x s None) view
+
+  -- a segment that has none stays as it is
+  module _ (s : SegId) (none : walk_in k s ≡ None) where
+    same_walks : set walks s.0 None ≡ walks
+    same_walks = ap (set walks s.0) (sym (ap (λ (x : Sketch). walk_in x s) view ∙ none)) ∙ set-get_or walks s.0 None
+
+    pub bare_shown : parts_of b ≡ board_of (sketch_of b points stand (set walks s.0 None))
+    bare_shown = shown ∙ ap (λ (ws : List (Option PlainWalk)). board_of (sketch_of b points stand ws)) (sym same_walks)
+
+    pub bare_view : sketch_of b points stand (set walks s.0 None) ≡ with_walk_of k s None
+    bare_view = ap (λ (x : Sketch). with_walk_of x s None) view
