@@ -85,11 +85,11 @@ AreTakable graph k [] = Unit {0}
 AreTakable graph k (c ∷ cs) = IsTakable graph k c × AreTakable graph (without_run k c) cs
 
 -- runs may be laid, one after another: their ends stand, the nodes between them don't, and their segments have no walk
-pub record AreLayable (graph : GraphParts) (k : Sketch) (runs : List Chain) : Type 0 where
+pub record AreLayable (graph : GraphParts) (k : Sketch) (cs : List Chain) : Type 0 where
   pub legal : IsLegalSketch graph k
-  pub runs : All (IsRun graph) runs
-  pub beside : AreBeside runs
-  pub free : All (IsFreeFor k) runs
+  pub runs : All (IsRun graph) cs
+  pub beside : AreBeside cs
+  pub free : All (IsFreeFor k) cs
 
 -- ---- nodes that move
 

@@ -36,10 +36,10 @@ abbrev pub points_along : Sketch → List ChainStep → List (NodeId × GridPoin
 points_along k steps = map (λ (n : NodeId). (n, point_of_node k n.0)) (inner_nodes steps)
 
 -- all of that can be put back
-pub record CanPutBack (k : Sketch) (moved inner : List (NodeId × GridPoint)) (walks : List (SegId × PlainWalk)) : Type 0 where
-  pub moved : CanStandEach k moved
-  pub inner : CanStandEach (fold stood_at k moved) inner
-  pub walks : CanWalkEach (fold stood_at (fold stood_at k moved) inner) walks
+pub record CanPutBack (k : Sketch) (ms ns : List (NodeId × GridPoint)) (ws : List (SegId × PlainWalk)) : Type 0 where
+  pub moved : CanStandEach k ms
+  pub inner : CanStandEach (fold stood_at k ms) ns
+  pub walks : CanWalkEach (fold stood_at (fold stood_at k ms) ns) ws
 
 -- The runs of a group and the nodes that move were taken off a drawing: the rest weighs so much, the points of the nodes
 -- are known, all of it can be put back, wherever nodes lie meanwhile that don't stand, and each run has its bounds beside
