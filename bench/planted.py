@@ -183,7 +183,8 @@ def by_name_only(said, bug):
             return False
         return f"/{bug.function}/" in at[1] or at[1] == bug.path and begin - 1 <= int(at[2]) <= end + 1
 
-    told = [it for it in said.splitlines() if is_of(it)]
+    whole_lines = re.sub(r"\n +(?=has no |is not in |was not )", " ", said)
+    told = [it for it in whole_lines.splitlines() if is_of(it)]
     names = r"(note: )?(\./)?proofs/.*(has no field|is not in scope|has no `|was not admitted)"
     return bool(told) and all(re.match(names, it) for it in told)
 
@@ -226,15 +227,15 @@ def try_bugs(rt, crate, bugs):
 
 
 def table(crates):
-    known, sums = verdicts(), [0, 0, 0]
-    print("| crate | planted | refused | by name only |\n|---|---|---|---|")
+    known, sums = verdicts(), [0, 0, 0, 0]
+    print("| crate | planted | refused | by name alone | proved |\n|---|---|---|---|---|")
     for crate in crates:
         told = [known[it.key][0] for it in bugs_of(crate) if it.key in known]
-        row = [sum(it != UNREAD for it in told), told.count(REFUSED), told.count(NAMED)]
+        row = [sum(it != UNREAD for it in told), *map(told.count, (REFUSED, NAMED, PROVED))]
         sums = [a + b for a, b in zip(sums, row)]
         if row[0]:
-            print(f"| {crate} | {row[0]} | {row[1]} | {row[2]} |")
-    print(f"| all | {sums[0]} | {sums[1]} | {sums[2]} |")
+            print(f"| {crate} | {' | '.join(map(str, row))} |")
+    print(f"| all | {' | '.join(map(str, sums))} |")
 
 
 def main(words):

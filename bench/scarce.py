@@ -8,8 +8,9 @@ Over three small feeds and Vienna's underground, and for each command:
 - short files: with each greatest length of a file (`ulimit -f`, in bytes) up to that of its longest output, or N of them
   (300), standard output into a file among them. A run never ends by a signal (SIGXFSZ); it ends with status 8 and the
   outputs as they were, or with its ordinary status and bytes.
-- a short stack: 64 KB, with the ordinary status and bytes. Over a feed of its own, `check` and `labels` of a certificate
-  whose tree has as many levels as one may have, with 512 KB; and with one level more, which is no certificate.
+- a short stack: 64 KB, with the ordinary status and bytes, since the program runs in a thread with a stack of its own.
+  Over a feed of its own, `check` and `labels` of a certificate whose tree has as many levels as one may have; and with one
+  level more, which is no certificate.
 - a full disk: a file system of 16 KB (a `tmpfs`, which only root can make) with a small pair of map and certificate on it,
   to which `map` writes Vienna's: status 8, and both old files whole.
 
@@ -102,7 +103,7 @@ def deep_certificate(program, levels):
 
 
 def deep_proofs(program):
-    """(runs, faults) of deep certificates under a stack of 512 KB."""
+    """(runs, faults) of deep certificates under a stack of 64 KB."""
     os.makedirs(os.path.join(program.top, "deep"))
     os.chdir(os.path.join(program.top, "deep"))
     faults = []
@@ -110,11 +111,11 @@ def deep_proofs(program):
     for levels, words in cases:
         deep_certificate(program, levels)
         wide = program.run(words)
-        program.limits = [(resource.RLIMIT_STACK, 512 << 10)]
+        program.limits = [(resource.RLIMIT_STACK, 64 << 10)]
         narrow = program.run(words)
         program.limits = []
         if wide != narrow or wide[0] is None or wide[0] < 0 or (wide[0] == 0) != (levels <= MOST_LEVELS):
-            faults.append(f"{levels} levels: {words}: {wide} and with 512 KB {narrow}")
+            faults.append(f"{levels} levels: {words}: {wide} and with 64 KB {narrow}")
     os.chdir("/")
     return len(cases), faults
 

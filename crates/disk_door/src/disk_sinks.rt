@@ -12,10 +12,11 @@ use crate::outputs::{Output, output_at};
 use crate::placing::{place_all, remove_all};
 use crate::retries::write_once;
 use files_door::{Sinks, Stop, Target};
-use map_base::{NoMemory, Text};
+use map_base::{NoMemory, Progress, Text};
 use std::alloc::Global;
 use std::fs::OpenFile;
 use std::io::{ErrorKind, Write};
+use std::sync::Arc;
 use std::{io, mem, rt};
 
 /// Where the next bytes go.
@@ -38,7 +39,7 @@ enum Place<F: Drop> {
 /// that fails, and after `discard`, the target is what it was. Each draft is synced and closed before the next target
 /// is begun. Where that fails the draft is lost: no target is begun any more, and nothing is put in place.
 #[derive(Drop)]
-pub struct DiskSinks<R: rt::Files + Print> {
+pub struct DiskSinks<R: rt::Files + Print + Eprint> {
     rt: R,
     alloc: Global,
     place: Place<R::File>,
@@ -48,6 +49,7 @@ pub struct DiskSinks<R: rt::Files + Print> {
     is_lost: bool,
     last_error: Option<io::Error>,
     last_path: Option<Text>,
+    watched: Option<Arc<Progress, Global>>,
 }
 
 /// An error of the system in writing.
@@ -59,9 +61,18 @@ pub struct WriteError<'a> {
     pub path: Option<&'a str>,
 }
 
-impl<R: rt::Files + Print> DiskSinks<R> {
+impl<R: rt::Files + Print + Eprint> DiskSinks<R> {
     /// The targets that `rt` reaches; none is current, and the count is 0.
     pub fn new(rt: R, alloc: Global) -> DiskSinks<R>
+        ensures nowhere { ⟦<DiskSinks<R> as Sinks>⟧.current result ≡ None }
+        ensures count { ⟦<DiskSinks<R> as Sinks>⟧.faults result ≡ 0 }
+    {
+        DiskSinks::watched(rt, alloc, None)
+    }
+
+    /// The same; where somebody watches the run, the line that tells how far it is goes from the terminal before standard
+    /// output is written.
+    pub fn watched(rt: R, alloc: Global, watched: Option<Arc<Progress, Global>>) -> DiskSinks<R>
         ensures nowhere { ⟦<DiskSinks<R> as Sinks>⟧.current result ≡ None }
         ensures count { ⟦<DiskSinks<R> as Sinks>⟧.faults result ≡ 0 }
     {
@@ -76,6 +87,16 @@ impl<R: rt::Files + Print> DiskSinks<R> {
             is_lost: false,
             last_error: None,
             last_path: None,
+            watched,
+        }
+    }
+
+    /// Takes the line that tells how far the run is from the terminal.
+    fn hide_line(&self) {
+        if let Some(progress) = &self.watched {
+            if progress.hide() {
+                let _not_hidden = eprint!(self.rt; "\r\x1b[K");
+            }
         }
     }
 
@@ -203,6 +224,9 @@ impl<R: rt::Files + Print> DiskSinks<R> {
     {
         self.leave()?;
         self.last_path = None;
+        if let Target::Said = to {
+            self.hide_line();
+        }
         self.place = match to {
             Target::Said => Place::Said,
             Target::Path(path) => self.open(path)?,
@@ -269,7 +293,7 @@ fn write_straight<F: Write + OpenFile>(file: &mut F, piece: &[u8], most: u64) ->
     write_once(file, piece)
 }
 
-impl<R: rt::Files + Print> Sinks for DiskSinks<R> {
+impl<R: rt::Files + Print + Eprint> Sinks for DiskSinks<R> {
     ghost written = { λ sinks. None };
 
     ghost current = { λ sinks. target_of sinks.place };

@@ -51,6 +51,24 @@ round_the_diagonal = refl
 round_the_diagonal_end : after (at (pos 2) (pos 0)) (dir.NE ∷ dir.N ∷ dir.NW ∷ dir.W ∷ dir.SW ∷ []) ≡ at (pos 0) (pos 2)
 round_the_diagonal_end = refl
 
+-- a step along an axis costs 4, a turn of 45 degrees 1, and a diagonal step 5
+one_turn : way_cost (dir.E ∷ dir.NE ∷ []) ≡ 10
+one_turn = refl
+
+one_turn_end : after (at (pos 0) (pos 0)) (dir.E ∷ dir.NE ∷ []) ≡ at (pos 2) (pos 1)
+one_turn_end = refl
+
+-- a walk between even points is legal, and one that ends at an odd point is not
+abbrev two_stations : GraphParts
+two_stations = graph_of (ends 0 1 ∷ []) ((seg 0 ∷ []) ∷ (seg 0 ∷ []) ∷ [])
+
+even_ends : first_illegal two_stations (walk (at (pos 0) (pos 0)) (dir.NE ∷ dir.NE ∷ dir.E ∷ dir.E ∷ []) ∷ []) ≡ None
+even_ends = refl
+
+odd_end : first_illegal two_stations (walk (at (pos 0) (pos 0)) (dir.NE ∷ dir.NE ∷ dir.NE ∷ []) ∷ [])
+    ≡ Some (seg 0, why.Ends)
+odd_end = refl
+
 -- two trunks of one segment, each with two branches
 trunks : GraphParts
 trunks = graph_of (ends 0 3 ∷ ends 0 1 ∷ ends 0 4 ∷ ends 1 2 ∷ ends 2 5 ∷ ends 2 6 ∷ [])

@@ -6,3 +6,4 @@ mod Moves
 mod Offsets
 mod CourseLines
 mod Pictures
+mod Labels

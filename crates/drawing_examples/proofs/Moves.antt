@@ -6,7 +6,7 @@ use Rattle.octi_grid.specs.declared.dir.Dir.TheVariants as dir
 use Rattle.octi_grid.specs.declared.point.GridPoint.{GridPoint}
 use Rattle.octi_grid.specs.Walks.{PlainWalk}
 use Rattle.drawing_weights.specs.Weights.{point_of}
-use Rattle.octi_moves.specs.Moves.{board_bounds, may_stand, moved}
+use Rattle.octi_moves.specs.Moves.{board_bounds, improved, may_stand, moved}
 
 abbrev at : ℤ → ℤ → GridPoint
 at x y = record { x = x; y = y }
@@ -41,3 +41,7 @@ taken = refl
 -- an end node may not stand on the walk of the other segment
 in_the_way : may_stand row (board_bounds bent) bent 0 (at (pos 18) (pos 2)) ≡ false
 in_the_way = refl
+
+-- without moves the drawing stays as it is
+no_moves : improved row bent 0 ≡ record { walks = bent; made = 0 }
+no_moves = refl

@@ -1,6 +1,7 @@
 -- The definitions at worked lines.
-use Rattle.std.proofs.Common.{◌≡◌, ℕ, Bool, List, ◌∷◌, [], ◌++◌, Some, None, Ok, Err, pos, neg_ℤ, true, false, refl}
+use Rattle.std.proofs.Common.{◌≡◌, ℕ, Bool, List, ◌∷◌, [], ◌++◌, Option, Some, None, Result, Ok, Err, map, pos, neg_ℤ, true, false, refl}
 use Rattle.std.specs.Prelude.{codes}
+use Rattle.std.specs.Result.{result_err}
 use Rattle.std.specs.Str.{is_utf8, chars}
 use Rattle.std.specs.Str.Lines.{lines}
 use lib.Utf8.{encode}
@@ -8,10 +9,11 @@ use Rattle.table_rows.specs.Values.{number_of, degrees_of, colour_of}
 use Rattle.map_edits.specs.declared.edit.Edit.TheVariants.{Hide, Show, Weight, Near, Cell, Budget, Rename, Move, Colour, Importance, Undo}
 use Rattle.map_edits.specs.declared.reading.ScriptLine.TheVariants.{Draw}
 use Rattle.map_edits.specs.Grammar.{edit_in, script_line_in}
-use Rattle.map_edits.specs.Standing.{Named, edits_from}
-use Rattle.map_edits.specs.Effects.{with_pair, lines_after, choices_after}
+use Rattle.map_edits.specs.Standing.{Named, edits_from, edits_in}
+use Rattle.map_edits.specs.Effects.{with_pair, lines_after, choices_after, edited}
 use Rattle.map_base.specs.Settings.{standard_choices}
 use Rattle.transit_feed.specs.declared.line.Line.{Line}
+use Rattle.transit_feed.specs.Feeds.{Feed}
 
 -- ids and names
 hide : edit_in (codes "hide\tA") ≡ Some (Hide (codes "A"))
@@ -224,3 +226,50 @@ hidden_and_shown = refl
 station_weights : (choices_after (Weight true (record { link = 7; split = 5; sep = 0 }) ∷ []) standard_choices).weights
     ≡ record { link = 4; split = 1; sep = 3 } ∷ record { link = 7; split = 5; sep = 0 } ∷ []
 station_weights = refl
+
+-- Scripts over a feed of the station X and the line A.
+abbrev sample : Feed
+sample = record {
+  stations = record { id = codes "X"; name = codes "North"; lat = pos 0; lon = pos 0 } ∷ [];
+  lines = record { id = codes "A"; name = codes "1"; colour = 0 ∷ 0 ∷ 0 ∷ []; hidden = false } ∷ [];
+  patterns = [];
+  shapes = [];
+}
+
+abbrev first_bad : List (List ℕ) → List (Option ℕ)
+first_bad = map (λ script. result_err (edits_in sample script))
+
+by_line_ends : first_bad ([] ∷ codes "\n" ∷ codes "hide\tA\nshow\tA\r\n" ∷ codes "hide\tA\nshow\tA\r"
+    ∷ codes "hide\tA\r\r\n" ∷ codes "hide\tA\n\nhide\tC" ∷ [])
+    ≡ None ∷ Some 1 ∷ None ∷ Some 2 ∷ Some 1 ∷ Some 2 ∷ []
+unfolding is_utf8 chars encode
+by_line_ends = refl
+
+by_what_they_say : first_bad (
+    codes "hide\tA\nundo\nundo\nundo" ∷ codes "rename\tA\tB" ∷ codes "hide\tX" ∷ codes "draw" ∷ (0xEF ∷ 0xBB ∷ 0xBF
+    ∷ codes "hide\tA") ∷ []
+    ) ≡ Some 3 ∷ Some 1 ∷ Some 1 ∷ Some 1 ∷ Some 1 ∷ []
+unfolding is_utf8 chars encode
+by_what_they_say = refl
+
+abbrev all_edits : List ℕ
+all_edits = codes "importance\tA\t3\r\nnear\t0020\nrename\tX\t\nmove\tX\t1.5\t-2\ncolour\tA\tFF0010\nhide\tA\nundo"
+
+-- the last one is undone
+edits_stand : edits_in sample all_edits
+    ≡ Ok (Importance (codes "A") 3 ∷ Near 20 ∷ Rename (codes "X") []
+    ∷ Move (codes "X") (pos 1500000) (neg_ℤ (pos 2000000)) ∷ Colour (codes "A") (255 ∷ 0 ∷ 16 ∷ []) ∷ [])
+unfolding number_of degrees_of colour_of is_utf8 chars encode
+edits_stand = refl
+
+all_are_made : edited sample standard_choices
+    (Importance (codes "A") 3 ∷ Near 20 ∷ Rename (codes "X") [] ∷ Move (codes "X") (pos 1500000) (neg_ℤ (pos 2000000))
+    ∷ Colour (codes "A") (255 ∷ 0 ∷ 16 ∷ []) ∷ [])
+    ≡ (
+      record sample {
+        stations = record { id = codes "X"; name = []; lat = pos 1500000; lon = neg_ℤ (pos 2000000) } ∷ [];
+        lines = record { id = codes "A"; name = codes "1"; colour = 255 ∷ 0 ∷ 16 ∷ []; hidden = false } ∷ [];
+      },
+      record standard_choices { near = 20; importance = (codes "A", 3) ∷ [] },
+    )
+all_are_made = refl

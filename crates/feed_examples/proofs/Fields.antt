@@ -1,6 +1,6 @@
 -- The definitions at worked texts.
-use Rattle.std.proofs.Common.{◌≡◌, ◌∷◌, [], ◌^◌, Some, None, pos, neg_ℤ, refl}
-use Rattle.std.specs.Prelude.{codes}
+use Rattle.std.proofs.Common.{◌≡◌, ◌∷◌, [], ◌^◌, ◌++◌, Some, None, pos, neg_ℤ, refl}
+use Rattle.std.specs.Prelude.{codes, map, replicate}
 use Rattle.csv.proofs.OnLiterals.{csv_on_literals}
 use Rattle.gtfs_fields.specs.Records.{records_of, field_of, width_of}
 use Rattle.gtfs_fields.specs.Spaces.{trimmed}
@@ -36,6 +36,16 @@ signed_whole = refl
 
 inner_space : whole_value (codes "1 2") ≡ None
 inner_space = refl
+
+other_wholes : map whole_value (codes "0" ∷ codes "  12 " ∷ codes "4294967295" ∷ [])
+    ≡ Some 0 ∷ Some 12 ∷ Some 4294967295 ∷ []
+other_wholes = refl
+
+no_wholes : map whole_value (codes "99999999999999999999999999" ∷ [] ∷ codes "-0" ∷ codes "\t1" ∷ []) ≡ replicate 4 None
+no_wholes = refl
+
+digits_lose_nothing : whole_value (replicate 400 48 ++ codes "42") ≡ Some 42
+digits_lose_nothing = refl
 
 no_whole : whole_value (codes "  ") ≡ None
 no_whole = refl
@@ -107,6 +117,27 @@ past_greatest_degree = refl
 small_times_great : degree_value (codes "0.0000000000000000000000000000000000000000000000000000000000000000000000000000000000000000000000000123e99") ≡ Some (pos 12300000)
 small_times_great = refl
 
+other_degrees : map degree_value (codes "-1E-99" ∷ codes "48.2081743" ∷ codes "-48.2081749" ∷ codes "+16.3738189e0"
+    ∷ codes "0.9999999" ∷ codes "-0.9999999" ∷ [])
+    ≡ Some (pos 0) ∷ Some (pos 48208174) ∷ Some (neg_ℤ (pos 48208174)) ∷ Some (pos 16373818) ∷ Some (pos 999999)
+    ∷ Some (neg_ℤ (pos 999999)) ∷ []
+other_degrees = refl
+
+degrees_by_powers : map degree_value (codes "1234567E-7" ∷ codes "9999999E-8" ∷ codes "1000000" ∷ codes "1e6"
+    ∷ codes "0e99" ∷ codes "-1000000.0000009" ∷ [])
+    ≡ Some (pos 123456) ∷ Some (pos 99999) ∷ Some (pos (10 ^ 12)) ∷ Some (pos (10 ^ 12)) ∷ Some (pos 0)
+    ∷ Some (neg_ℤ (pos (10 ^ 12))) ∷ []
+degrees_by_powers = refl
+
+no_degrees : map degree_value ([] ∷ codes "--1" ∷ codes "- 1" ∷ codes "1e1." ∷ []) ≡ replicate 4 None
+no_degrees = refl
+
+-- hundreds of digits lose nothing
+long_degrees : map degree_value ((replicate 392 48 ++ codes "1.25") ∷ (codes "-1." ++ replicate 392 48 ++ codes "1")
+    ∷ (codes "0." ++ replicate 398 57) ∷ replicate 400 57 ∷ [])
+    ≡ Some (pos 1250000) ∷ Some (neg_ℤ (pos 1000000)) ∷ Some (pos 999999) ∷ None ∷ []
+long_degrees = refl
+
 -- colours
 mixed_case : colour_value (codes "FFffFf") ≡ Some (255 ∷ 255 ∷ 255 ∷ [])
 mixed_case = refl
@@ -122,6 +153,9 @@ no_hexadecimal_digit = refl
 
 spaced_colour : colour_value (codes " 6194b") ≡ None
 spaced_colour = refl
+
+other_colours : map colour_value (codes "090A0f" ∷ codes "e6194" ∷ [] ∷ []) ≡ Some (9 ∷ 10 ∷ 15 ∷ []) ∷ None ∷ None ∷ []
+other_colours = refl
 
 -- records
 two_rows : records_of (0xEF ∷ 0xBB ∷ 0xBF ∷ codes "a,\"b,\"\"c\"\r\n\r\n d ,,\"\n\"") ≡ (codes "a" ∷ codes "b,\"c" ∷ []) ∷ (codes " d " ∷ [] ∷ codes "\n" ∷ []) ∷ []
@@ -139,3 +173,20 @@ second_field = refl
 second_width : width_of (records_of (codes "a,b\n1,2,3\n")) 1 ≡ 3
 unfolding csv_on_literals
 second_width = refl
+
+-- fields behind the header's, fewer fields, and the last row without an end
+ragged_rows : records_of (0xEF ∷ 0xBB ∷ 0xBF ∷ codes "id,name\r\n\r\n1,\"Main, \"\"A\"\"\n & B\",,more\r\n2\n, x ,")
+    ≡ (codes "id" ∷ codes "name" ∷ []) ∷ (codes "1" ∷ codes "Main, \"A\"\n & B" ∷ [] ∷ codes "more" ∷ []) ∷ (codes "2"
+    ∷ []) ∷ ([] ∷ codes " x " ∷ [] ∷ []) ∷ []
+unfolding csv_on_literals
+ragged_rows = refl
+
+empty_lines : records_of (codes "\n\r\n") ≡ []
+unfolding csv_on_literals
+empty_lines = refl
+
+-- a quote that is not closed
+unfinished_row : records_of (codes "id,name\r\n\r\n7,\"A, B\",\"\"\"C\"\"\"d\n\"8")
+    ≡ (codes "id" ∷ codes "name" ∷ []) ∷ (codes "7" ∷ codes "A, B" ∷ codes "\"C\"d" ∷ []) ∷ (codes "8" ∷ []) ∷ []
+unfolding csv_on_literals
+unfinished_row = refl

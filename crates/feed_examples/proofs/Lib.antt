@@ -9,3 +9,4 @@ mod Doors
 mod Edits
 mod SettingsFiles
 mod Trials
+mod Folders

@@ -1,5 +1,6 @@
 -- What settings files make, at small ones.
-use Rattle.std.proofs.Common.{◌≡◌, Ok, Err, codes, refl}
+use Rattle.std.proofs.Common.{◌≡◌, ℕ, ◌++◌, Bool, true, false, List, [], ◌∷◌, Result, Ok, Err, is_ok, map, replicate, codes, refl}
+use Rattle.std.specs.List.{flat_map}
 use Rattle.toml.specs.Parse.{parse_document}
 use Rattle.toml.proofs.OnLiterals.{toml_on_literals}
 use Rattle.map_base.specs.Settings.{standard_choices}
@@ -10,6 +11,7 @@ use Rattle.map_method.specs.declared.claim.Claim.TheVariants.{Best, Bound}
 use Rattle.map_method.specs.declared.spread.Spread.TheVariants.{Percent, Auto}
 use Rattle.map_method.specs.Defaults.{default_choices}
 use Rattle.map_method.specs.Methods.{MethodChoices}
+use Rattle.map_settings.specs.declared.fault.SettingsWhy.{SettingsWhy}
 use Rattle.map_settings.specs.declared.fault.SettingsWhy.TheVariants.{NotToml, Key}
 use Rattle.map_settings.specs.Outcome.{with_table}
 
@@ -103,3 +105,100 @@ least_bad_key = refl
 no_document : with_table (default_choices Make) (parse_document (codes "near = \n")) ≡ Err NotToml
 unfolding toml_on_literals
 no_document = refl
+
+twice_a_key : with_table (default_choices Make) (parse_document (codes "near = 20\nnear = 21\n")) ≡ Err NotToml
+unfolding toml_on_literals
+twice_a_key = refl
+
+abbrev told : List ℕ → Result MapSettings SettingsWhy
+told file = with_table (default_choices Make) (parse_document file)
+
+unknown_key : told (codes "colour = 1\n") ≡ Err (Key (codes "colour"))
+unfolding toml_on_literals
+unknown_key = refl
+
+too_important : told (codes "importance = { B = 17 }\n") ≡ Err (Key (codes "importance"))
+unfolding toml_on_literals
+too_important = refl
+
+every_method : told (codes "near = 20\nsearch = \"dual\"\nproof = \"bound\"\nspread = 35\nfinest = 16\nmoves = 7\n")
+    ≡ Ok (near_and_method (record { search = Dual; claim = Bound; spread = Percent 35; finest = 16; moves = 7 }))
+unfolding toml_on_literals
+every_method = refl
+
+-- Whether files are read: the ends of each range.
+abbrev are_read : List (List ℕ) → List Bool
+are_read = map (λ file. is_ok (told file))
+
+nears : are_read (codes "near = 19\n" ∷ codes "near = 20\n" ∷ codes "near = 20000\n" ∷ codes "near = 20001\n" ∷ [])
+    ≡ false ∷ true ∷ true ∷ false ∷ []
+unfolding toml_on_literals
+nears = refl
+
+cells : are_read (codes "cell = -1\n" ∷ codes "cell = 1\n" ∷ codes "cell = 10\n" ∷ codes "cell = 1000000\n"
+    ∷ codes "cell = 1000001\n" ∷ [])
+    ≡ false ∷ false ∷ true ∷ true ∷ false ∷ []
+unfolding toml_on_literals
+cells = refl
+
+budgets : are_read (codes "budget = 0\n" ∷ codes "budget = 1\n" ∷ codes "budget = 100000\n"
+    ∷ codes "budget = 100001\n" ∷ []) ≡ false ∷ true ∷ true ∷ false ∷ []
+unfolding toml_on_literals
+budgets = refl
+
+types : are_read (codes "types = []\n" ∷ codes "types = [0, 4294967295]\n" ∷ codes "types = [4294967296]\n" ∷ [])
+    ≡ true ∷ true ∷ false ∷ []
+unfolding toml_on_literals
+types = refl
+
+abbrev zeros : ℕ → List ℕ
+zeros count = codes "types = ["
+    ++ flat_map (λ (zero_and_comma : List ℕ). zero_and_comma) (replicate count (codes "0, ")) ++ codes "]\n"
+
+a_hundred_types : are_read (zeros 100 ∷ zeros 101 ∷ []) ≡ true ∷ false ∷ []
+unfolding toml_on_literals
+a_hundred_types = refl
+
+junctions : are_read (codes "junction = [1000, 1000, 1000]\n" ∷ codes "junction = [1001, 0, 0]\n"
+    ∷ codes "junction = [0, 1001, 0]\n" ∷ []) ≡ true ∷ false ∷ false ∷ []
+unfolding toml_on_literals
+junctions = refl
+
+stations : are_read (codes "station = [0, 0, 0]\n" ∷ codes "station = [0, 0, 1001]\n" ∷ codes "station = [0, 0]\n"
+    ∷ codes "station = [0, 0, 0, 0]\n" ∷ [])
+    ≡ true ∷ false ∷ false ∷ false ∷ []
+unfolding toml_on_literals
+stations = refl
+
+searches : are_read (codes "search = \"live\"\n" ∷ codes "search = \"dual\"\n" ∷ codes "search = \"Dual\"\n"
+    ∷ codes "search = 1\n" ∷ []) ≡ true ∷ true ∷ false ∷ false ∷ []
+unfolding toml_on_literals
+searches = refl
+
+claims : are_read (codes "proof = \"best\"\n" ∷ codes "proof = \"bound\"\n" ∷ codes "proof = \"Best\"\n"
+    ∷ codes "proof = true\n" ∷ []) ≡ true ∷ true ∷ false ∷ false ∷ []
+unfolding toml_on_literals
+claims = refl
+
+spreads : are_read (codes "spread = -1\n" ∷ codes "spread = 0\n" ∷ codes "spread = 100\n"
+    ∷ codes "spread = \"auto\"\n" ∷ codes "spread = \"all\"\n" ∷ codes "spread = [0]\n" ∷ [])
+    ≡ false ∷ true ∷ true ∷ true ∷ false ∷ false ∷ []
+unfolding toml_on_literals
+spreads = refl
+
+finest_grids : are_read (codes "finest = 2\n" ∷ codes "finest = 4\n" ∷ codes "finest = 5\n" ∷ codes "finest = 8\n"
+    ∷ codes "finest = 16\n" ∷ codes "finest = 32\n" ∷ [])
+    ≡ false ∷ true ∷ false ∷ true ∷ true ∷ false ∷ []
+unfolding toml_on_literals
+finest_grids = refl
+
+moves : are_read (codes "moves = -1\n" ∷ codes "moves = 0\n" ∷ codes "moves = 10000\n" ∷ codes "moves = \"auto\"\n"
+    ∷ []) ≡ false ∷ true ∷ true ∷ false ∷ []
+unfolding toml_on_literals
+moves = refl
+
+importances : are_read (codes "importance = { A = 0 }\n" ∷ codes "importance = { A = 1 }\n"
+    ∷ codes "importance = { A = 16 }\n" ∷ codes "importance = { A = 17 }\n" ∷ [])
+    ≡ false ∷ true ∷ true ∷ false ∷ []
+unfolding toml_on_literals
+importances = refl

@@ -1,11 +1,13 @@
 -- What the definitions give, at values worked by hand.
 use Rattle.std.proofs.Common.{◌≡◌, ℕ, ◌+◌, ◌*◌, [], ◌∷◌, refl}
 use Rattle.std.specs.Prelude.{codes}
+use Rattle.std.specs.Fmt.{digits}
 use Rattle.trial_feed.specs.declared.lattice.Place.{Place}
 use Rattle.trial_feed.specs.Draws.{next_state, drawn}
 use Rattle.trial_feed.specs.Lattice.{side, line_count, microdegrees}
 use Rattle.trial_feed.specs.Lines.{lines}
 use Rattle.trial_feed.specs.Rows.{six_digits}
+use Rattle.trial_feed.specs.Summary.{trial_line}
 
 abbrev at : ℕ → ℕ → Place
 at east north = record { east = east; north = north }
@@ -39,3 +41,8 @@ no_step = refl
 
 digits_of_four_steps : six_digits 17967 ≡ codes "017967"
 digits_of_four_steps = refl
+
+told_of_a_map : trial_line 0 (record { nodes = 9; segments = 7; lines = 2; cost = 0; branches = 0 })
+    ≡ codes "trial 0: nodes 9 segments 7 lines 2 cost 0 branches 0\n"
+unfolding digits
+told_of_a_map = refl

@@ -1,8 +1,8 @@
 -- The definitions at small values.
-use Rattle.std.proofs.Common.{◌≡◌, refl, ℕ, pos, [], ◌∷◌}
+use Rattle.std.proofs.Common.{◌≡◌, refl, ℕ, pos, negsuc, Bool, true, false, List, [], ◌∷◌, map}
 use Rattle.map_base.specs.declared.point.Point.{Point}
-use Rattle.track_net.specs.Nearness.{numbers_near}
-use Rattle.track_net.specs.Nets.{net_points, all_edges, net_of_samples, net_over}
+use Rattle.track_net.specs.Nearness.{has_near, numbers_near}
+use Rattle.track_net.specs.Nets.{net_points, all_edges, NetParts, edges_of_point, net_of_samples, net_over}
 
 abbrev at : ℕ → ℕ → Point
 at x y = record { x = pos x; y = pos y }
@@ -36,3 +36,22 @@ stations_stay = refl
 
 near_ones : numbers_near 500 (at 0 0 ∷ at 499 0 ∷ at 500 0 ∷ []) (at 0 0) ≡ 0 ∷ 1 ∷ []
 near_ones = refl
+
+-- stations three times `near` apart, and samples of which the nearer one is left out
+abbrev with_samples : NetParts
+with_samples = net_of_samples 500 (at 0 0 ∷ at 1500 0 ∷ []) (at 499 0 ∷ at 500 0 ∷ at 1500 500 ∷ [])
+
+samples_stand : with_samples.points ≡ at 0 0 ∷ at 1500 0 ∷ at 500 0 ∷ at 1500 500 ∷ []
+samples_stand = refl
+
+edges_stand : map (edges_of_point with_samples) (1 ∷ 2 ∷ []) ≡ (2 ∷ 3 ∷ []) ∷ (0 ∷ 1 ∷ []) ∷ []
+edges_stand = refl
+
+-- nearer than the distance, and at it
+abbrev are_near : List Point → List Bool
+are_near = map (has_near 500 (at 500 0 ∷ record { x = negsuc 0; y = negsuc 0 } ∷ []))
+
+near_and_not : are_near (at 999 0 ∷ at 1000 0 ∷ record { x = negsuc 499; y = negsuc 0 }
+    ∷ record { x = negsuc 500; y = negsuc 0 } ∷ [])
+    ≡ true ∷ false ∷ true ∷ false ∷ []
+near_and_not = refl

@@ -1,9 +1,10 @@
 -- Small cases, worked by hand.
-use Rattle.std.proofs.Common.{◌≡◌, pos, negsuc, refl, ℕ, true, false, [], ◌∷◌}
+use Rattle.std.proofs.Common.{◌≡◌, pos, negsuc, refl, ℕ, true, false, List, [], ◌∷◌, map}
 use Rattle.map_base.specs.declared.point.Point.{Point}
 use Rattle.shape_track.specs.Samples.{parts_of, samples_of}
 use Rattle.shape_track.specs.Snaps.{cost_of, is_not_after}
-use Rattle.shape_track.specs.Hops.{hop_points, hops_of}
+use Rattle.shape_track.specs.Choices.{snap_of}
+use Rattle.shape_track.specs.Hops.{hop_points, hops_of, total_of}
 
 abbrev at : ℕ → Point
 at x = record { x = pos x; y = pos 0 }
@@ -37,6 +38,37 @@ together = refl
 in_turn : cost_of (at 0 ∷ at 100 ∷ at 200 ∷ at 300 ∷ []) (at 290 ∷ at 110 ∷ []) (3 ∷ 3 ∷ []) ≡ 36200
 in_turn = refl
 
+-- the places of stations among samples, all of them on the axis
+abbrev places : List ℕ → List ℕ → List ℕ
+places samples stations = snap_of (map at samples) (map at stations)
+
+-- both at one sample, a tie, no station, and samples on one point
+both_at_one : places (0 ∷ 100 ∷ 200 ∷ 300 ∷ []) (290 ∷ 110 ∷ []) ≡ 2 ∷ 2 ∷ []
+both_at_one = refl
+
+half_way : places (0 ∷ 100 ∷ []) (50 ∷ []) ≡ 0 ∷ []
+half_way = refl
+
+no_station : places (5 ∷ []) [] ≡ []
+no_station = refl
+
+on_one_point : places (0 ∷ 0 ∷ 0 ∷ []) (0 ∷ 0 ∷ []) ≡ 0 ∷ 0 ∷ []
+on_one_point = refl
+
+-- against the way, from its end, and half way each
+against : places (0 ∷ 20 ∷ []) (20 ∷ 0 ∷ []) ≡ 0 ∷ 0 ∷ []
+against = refl
+
+from_the_second : places (10 ∷ 0 ∷ 10 ∷ []) (0 ∷ 10 ∷ []) ≡ 1 ∷ 2 ∷ []
+from_the_second = refl
+
+half_way_back : places (0 ∷ 10 ∷ 20 ∷ []) (15 ∷ 5 ∷ []) ≡ 1 ∷ 1 ∷ []
+half_way_back = refl
+
+-- there and back
+there_and_back : places (0 ∷ 10 ∷ 20 ∷ 10 ∷ 0 ∷ []) (0 ∷ 20 ∷ 0 ∷ []) ≡ 0 ∷ 2 ∷ 4 ∷ []
+there_and_back = refl
+
 -- the order of dictionaries
 earlier : is_not_after (0 ∷ 3 ∷ []) (1 ∷ 1 ∷ []) ≡ true
 earlier = refl
@@ -51,3 +83,14 @@ hop = refl
 -- there is a hop less than there are stations
 one_hop : hops_of 100 (at 0 ∷ at 10 ∷ at 20 ∷ []) (at 0 ∷ at 20 ∷ []) (0 ∷ 2 ∷ []) ≡ (at 0 ∷ at 10 ∷ at 20 ∷ []) ∷ []
 one_hop = refl
+
+-- two hops share the sample of the station between them, and the last one ends at its station
+abbrev two_hops : List (List Point)
+two_hops = hops_of 500 (map at (0 ∷ 100 ∷ 200 ∷ 300 ∷ [])) (map at (0 ∷ 200 ∷ 310 ∷ [])) (places (0 ∷ 100 ∷ 200 ∷ 300
+    ∷ []) (0 ∷ 200 ∷ 310 ∷ []))
+
+both_hops : two_hops ≡ map at (0 ∷ 100 ∷ 200 ∷ []) ∷ map at (200 ∷ 300 ∷ 310 ∷ []) ∷ []
+both_hops = refl
+
+samples_of_both : total_of two_hops ≡ 6
+samples_of_both = refl

@@ -21,7 +21,7 @@ use cert_file::{Certificate, write_certificate};
 use graph_core::LineGraph;
 use kept_trees::{Kept, SearchPlan};
 use kept_walks::KeptWalks;
-use map_base::{NoMemory, Sequence, Settings, Steps};
+use map_base::{NoMemory, Sequence, Settings, Stage, Steps};
 use map_faults::MakeFault;
 use map_method::Method;
 use octi_grid::Drawing;
@@ -98,6 +98,7 @@ pub fn make_improved_from<L: Ledger>(
     ensures finished { HoldsFinished result (finished_on importance.now settings.now method.now graph.now) kept.new }
     ensures steps { steps.new ≤ steps.old + left_on kept.old importance.now settings.now method.now graph.now }
 {
+    steps.enter(Stage::Drawing);
     let (drawing, problem) = drawn_map(alloc, graph, importance, settings, method, last)?;
     let best = best_orders(alloc, problem, plan_of(settings, method), kept, steps)?;
     Ok(moved_map(

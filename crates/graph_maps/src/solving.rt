@@ -86,6 +86,7 @@ fn solve_all<L: Ledger>(
         parts: Vec::with_capacity(alloc, parts.len())?,
     };
     for k in 0..parts.len() {
+        steps.enter_part(k, parts.len());
         solve_part(
             alloc,
             problem,

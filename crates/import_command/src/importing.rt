@@ -19,7 +19,7 @@ use command_run::Output;
 use files_door::Files;
 use graph_json::{Imported, read_graph};
 use graph_maps::{Kept, make_from};
-use map_base::{Sequence, Steps};
+use map_base::{Sequence, Stage, Steps};
 use map_commands::write_map;
 use map_method::MapSettings;
 use run_status::{GraphWhy, Input, Refusal};
@@ -41,6 +41,7 @@ pub fn import_graph<F: Files, L: Ledger>(
     ensures keeps { IfOk result (AreOfImported (F.told files.old) (inputs_by inputs.now) (paths_by map_files.now)) }
     ensures steps { SearchesImported (F.told files.old) (inputs_by inputs.now) steps.old steps.new }
 {
+    steps.enter(Stage::Reading);
     let both = read_both(alloc, inputs, files)?;
     map_of(alloc, &both, map_files, steps)
 }

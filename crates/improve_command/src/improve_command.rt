@@ -16,7 +16,7 @@ use command_inputs::{Inputs, Loaded, load};
 use command_paths::MapFiles;
 use command_run::Output;
 use files_door::Files;
-use map_base::{Sequence, Steps};
+use map_base::{Sequence, Stage, Steps};
 use map_engine::{Kept, make_improved};
 use run_status::Refusal;
 use std::alloc::Global;
@@ -37,6 +37,7 @@ pub fn improve_map<F: Files, L: Ledger>(
     ensures keeps { IfOk result (AreOfImproved (F.told files.old) (inputs_by inputs.now) (paths_by map_files.now) moves) }
     ensures steps { SearchesParts (F.told files.old) (inputs_by inputs.now) steps.old steps.new }
 {
+    steps.enter(Stage::Reading);
     let loaded = load(alloc, inputs, files)?;
     improved_of(alloc, &loaded, map_files, moves, steps)
 }

@@ -1,5 +1,5 @@
 //! What every crate of octimap speaks of: the numbers of things, points of the plane, texts, settings, limits,
-//! want of memory, and a counter of steps.
+//! want of memory, a counter of steps, and how far a run is.
 #![tactic(auto)]
 
 mod ids;
@@ -7,6 +7,7 @@ mod limit;
 mod limit_fault;
 mod memory;
 mod point;
+mod progress;
 mod sequence;
 mod settings;
 mod steps;
@@ -18,6 +19,7 @@ pub use limit::{Limit, LimitKind};
 pub use limit_fault::LimitFault;
 pub use memory::NoMemory;
 pub use point::Point;
+pub use progress::{Progress, Stage};
 pub use sequence::Sequence;
 pub use settings::Settings;
 pub use steps::Steps;

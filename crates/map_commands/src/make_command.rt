@@ -17,7 +17,7 @@ use command_inputs::{Inputs, Loaded, load};
 use command_paths::NewFiles;
 use command_run::Output;
 use files_door::Files;
-use map_base::{Sequence, Steps};
+use map_base::{Sequence, Stage, Steps};
 use map_engine::{Kept, make};
 use run_status::Refusal;
 use std::alloc::Global;
@@ -36,6 +36,7 @@ pub fn make_map<F: Files, L: Ledger>(
     ensures keeps { IfOk result (AreOfMap (F.told files.old) (inputs_by inputs.now) (new_paths_by new_files.now)) }
     ensures steps { SearchesParts (F.told files.old) (inputs_by inputs.now) steps.old steps.new }
 {
+    steps.enter(Stage::Reading);
     let loaded = load(alloc, inputs, files)?;
     map_of(alloc, &loaded, new_files, steps)
 }

@@ -14,7 +14,7 @@ use crate::names::names_of;
 use graph_maps::{ImprovedMap, Made, make_improved_from};
 use kept_drawing::LastDrawing;
 use kept_trees::Kept;
-use map_base::{Settings, Steps};
+use map_base::{Settings, Stage, Steps};
 use map_faults::MakeFault;
 use map_method::Method;
 use std::alloc::Global;
@@ -127,6 +127,7 @@ fn make_with<L: Ledger>(
     ensures finished { HoldsFinished result (finished_parts tables.now settings.now method.now) kept.new }
     ensures steps { steps.new ≤ steps.old + branches_left kept.old tables.now settings.now method.now }
 {
+    steps.enter(Stage::LineGraph);
     let graph = last.graph.build(alloc, tables, settings)?;
     let names = names_of(alloc, tables)?;
     let importance = line_numbers(alloc, tables, settings)?;

@@ -1,4 +1,4 @@
-//! Sessions: what refused edits leave.
+//! Sessions: what refusals leave, and that later draws are those of a map made afresh.
 
 ghost use Rattle.std.specs.Prelude.{◌≡◌, ◌<◌};
 
@@ -49,6 +49,38 @@ fn session_of_two(alloc: Global) -> Result<Session, Fail> {
 fn edit(alloc: Global, session: &mut Session, line: &str) -> Result<(), EditStop> {
     let edit = read_edit(alloc, line.as_bytes())?;
     session.edit(edit)
+}
+
+/// Whether a draw answers this, and leaves one edit standing.
+fn tells_once(alloc: Global, session: &mut Session, told: &str) -> Result<bool, Fail> {
+    let said = drawn(alloc, session)?;
+    Ok(said.as_str() == told && session.standing().len() == 1)
+}
+
+/// Whether two draws under an edit answer this, the second with what the first kept. The edit is then taken back.
+fn tells(alloc: Global, session: &mut Session, line: &str, told: &str) -> Result<bool, Fail> {
+    let stands = edit(alloc, session, line).is_ok();
+    let first = tells_once(alloc, session, told)?;
+    let second = tells_once(alloc, session, told)?;
+    let back = edit(alloc, session, "undo").is_ok();
+    Ok(stands && first && second && back)
+}
+
+#[test]
+fn a_refused_draw_leaves_the_edits_and_later_draws(rt: HostRuntime) -> Result<(), Fail> {
+    let alloc = rt.alloc();
+    let mut session = session_of_two(alloc)?;
+    let fresh = made_text(alloc, feeds::CROSSING, WIDE)?;
+    // Refused before anything is kept, and then with what the draws before it kept.
+    for round in 0..2u32 {
+        let spent = tells(alloc, &mut session, "budget\t1", "spent 0 2")?;
+        assert_eq!(rt; spent, true, "{round}");
+        let limit = tells(alloc, &mut session, "cell\t10", "limit")?;
+        assert_eq!(rt; limit, true, "{round}");
+        let later = drawn(alloc, &mut session)?;
+        assert_eq!(rt; later.as_str(), fresh.as_str());
+    }
+    Ok(())
 }
 
 #[test]

@@ -14,42 +14,59 @@ fn checked(alloc: Global, small: Small, text: &str) -> Result<String, Fail> {
     checked_text(alloc, problem, text.as_bytes())
 }
 
-/// A split of the first segment by one of two lines.
-const HALF: &str =
-    "rules 0\nparts 1\npart 1 1 3\nsplit 1 1\ntake 0\nsplit 3 2\ntake 1\nclose 0\ntake 0\nclose 0\n";
-
-/// A price above the weight of its Link.
-const DEAR: &str =
-    "rules 0\nparts 1\npart 21 0 1 2\nsplit 0 2\ntake 0\nsplit 1 2\ntake 0\nsplit 2 2\ntake 1\nclose 0\ntake 0\nclose 0\ntake 1\nclose 0\ntake 1\nclose 1 8 13\n";
-
-#[test]
-fn a_proof_is_refused_at_its_first_wrong_node(rt: HostRuntime) -> Result<(), Fail> {
-    let alloc = rt.alloc();
-    let told = checked(alloc, known::CROSSING, HALF)?;
-    assert_eq!(rt; told.as_str(), "part 0 after");
-    let told = checked(alloc, known::CONNECTIONS, DEAR)?;
-    assert_eq!(rt; told.as_str(), "part 0 after 1");
-    Ok(())
-}
-
-/// A price on the Link of the other part, and one that only the other Link could bear.
-const FOREIGN: [&str; 2] = ["1 1 1", "1 0 3"];
-
-#[test]
-fn a_price_on_a_term_of_another_part_is_refused(rt: HostRuntime) -> Result<(), Fail> {
-    let alloc = rt.alloc();
-    let told = checked(
-        alloc,
+/// Proofs, each with what the checker says.
+const CHECKED: [(Small, &str, &str); 8] = [
+    // A split of the first segment by one of two lines.
+    (
+        known::CROSSING,
+        "rules 0\nparts 1\npart 1 1 3\nsplit 1 1\ntake 0\nsplit 3 2\ntake 1\nclose 0\ntake 0\nclose 0\n",
+        "part 0 after",
+    ),
+    // A price above the weight of its Link.
+    (
+        known::CONNECTIONS,
+        "rules 0\nparts 1\npart 21 0 1 2\nsplit 0 2\ntake 0\nsplit 1 2\ntake 0\nsplit 2 2\ntake 1\nclose 0\ntake 0\nclose 0\ntake 1\nclose 0\ntake 1\nclose 1 8 13\n",
+        "part 0 after 1",
+    ),
+    // No prices; one on the Link of the other part, and one that only the other Link could bear.
+    (
         known::TWO_PARTS,
         "rules 0\nparts 2\npart 0 0 1\nclose 0\npart 0 2 3\nclose 0\n",
-    )?;
-    assert_eq!(rt; told.as_str(), "best");
-    for prices in FOREIGN {
-        let text = format!(in alloc;
-            "rules 0\nparts 2\npart 0 0 1\nclose {prices}\npart 0 2 3\nclose 0\n"
-        )?;
-        let told = checked(alloc, known::TWO_PARTS, text.as_str())?;
-        assert_eq!(rt; told.as_str(), "part 0 after", "{prices}");
+        "best",
+    ),
+    (
+        known::TWO_PARTS,
+        "rules 0\nparts 2\npart 0 0 1\nclose 1 1 1\npart 0 2 3\nclose 0\n",
+        "part 0 after",
+    ),
+    (
+        known::TWO_PARTS,
+        "rules 0\nparts 2\npart 0 0 1\nclose 1 0 3\npart 0 2 3\nclose 0\n",
+        "part 0 after",
+    ),
+    // A price on an Apart, in thousandths: what the target needs, one less, and one above its weight.
+    (
+        known::IMPORTANT,
+        "rules 0\nparts 1\npart 9 1 4\nstop 1 4 8001\n",
+        "best",
+    ),
+    (
+        known::IMPORTANT,
+        "rules 0\nparts 1\npart 9 1 4\nstop 1 4 8000\n",
+        "part 0 after",
+    ),
+    (
+        known::IMPORTANT,
+        "rules 0\nparts 1\npart 9 1 4\nstop 1 4 9001\n",
+        "part 0 after",
+    ),
+];
+
+#[test]
+fn proofs_are_accepted_or_refused_at_their_first_wrong_node(rt: HostRuntime) -> Result<(), Fail> {
+    for (small, text, verdict) in CHECKED {
+        let told = checked(rt.alloc(), small, text)?;
+        assert_eq!(rt; told.as_str(), verdict, "{text}");
     }
     Ok(())
 }
@@ -90,24 +107,6 @@ fn trees_of_settled_pairs_are_refused_at_their_first_wrong_node(
         let text = format!(in alloc; "rules 0\nparts 1\npart {target} 1 3\n{tree}")?;
         let told = checked(alloc, known::CROSSING, text.as_str())?;
         assert_eq!(rt; told.as_str(), verdict, "{tree}");
-    }
-    Ok(())
-}
-
-/// A price on an Apart, in thousandths: what the target needs, one less, and one above its weight.
-const BY_APART: [(u32, &str); 3] = [
-    (8001, "best"),
-    (8000, "part 0 after"),
-    (9001, "part 0 after"),
-];
-
-#[test]
-fn a_price_on_an_apart_shows_what_it_is_worth(rt: HostRuntime) -> Result<(), Fail> {
-    let alloc = rt.alloc();
-    for (price, verdict) in BY_APART {
-        let text = format!(in alloc; "rules 0\nparts 1\npart 9 1 4\nstop 1 4 {price}\n")?;
-        let told = checked(alloc, known::IMPORTANT, text.as_str())?;
-        assert_eq!(rt; told.as_str(), verdict, "{price}");
     }
     Ok(())
 }

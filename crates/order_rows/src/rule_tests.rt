@@ -16,38 +16,34 @@ fn untangled(alloc: Global, small: Small) -> Result<String, Fail> {
     untangled_text(alloc, problem)
 }
 
-#[test]
-fn lines_that_agree_share_an_order_and_are_set_apart(rt: HostRuntime) -> Result<(), Fail> {
-    let told = untangled(rt.alloc(), known::AGREEING)?;
-    assert_eq!(rt;
-        told.as_str(),
-        "/ 0/ 0 1/ 1/ 0 1/ 0/ 1\nrules 2\nmerge 1 3 0\ndivide 1 0\nparts 0\n"
-    );
-    Ok(())
-}
+/// Problems with what untangling tells: lines that agree share an order and are set apart, lines part at a junction without
+/// crossing, and no rule applies where it would cost.
+const UNTANGLED: [(Small, &str); 5] = [
+    (
+        known::AGREEING,
+        "/ 0/ 0 1/ 1/ 0 1/ 0/ 1\nrules 2\nmerge 1 3 0\ndivide 1 0\nparts 0\n",
+    ),
+    (
+        known::JUNCTION,
+        "/ 1 0/ 0/ 1\nrules 1\ndivide 0 1\nparts 0\n",
+    ),
+    (
+        known::CROSSING,
+        "/ 0/ 0 1/ 1/ 0 1/ 1/ 0\nrules 0\nparts 0\n",
+    ),
+    (known::SEPARATION, "/ 0 1 2/ 0 2/ 1\nrules 0\nparts 0\n"),
+    (
+        known::TWO_PAIRS,
+        "/ 0 1 2 3/ 0 1 4/ 2 3 4\nrules 0\nparts 0\n",
+    ),
+];
 
 #[test]
-fn lines_part_at_a_junction_without_crossing(rt: HostRuntime) -> Result<(), Fail> {
-    let told = untangled(rt.alloc(), known::JUNCTION)?;
-    assert_eq!(rt;
-        told.as_str(),
-        "/ 1 0/ 0/ 1\nrules 1\ndivide 0 1\nparts 0\n"
-    );
-    Ok(())
-}
-
-#[test]
-fn no_rule_applies_where_it_would_cost(rt: HostRuntime) -> Result<(), Fail> {
-    let alloc = rt.alloc();
-    let told = untangled(alloc, known::CROSSING)?;
-    assert_eq!(rt; told.as_str(), "/ 0/ 0 1/ 1/ 0 1/ 1/ 0\nrules 0\nparts 0\n");
-    let told = untangled(alloc, known::SEPARATION)?;
-    assert_eq!(rt; told.as_str(), "/ 0 1 2/ 0 2/ 1\nrules 0\nparts 0\n");
-    let told = untangled(alloc, known::TWO_PAIRS)?;
-    assert_eq!(rt;
-        told.as_str(),
-        "/ 0 1 2 3/ 0 1 4/ 2 3 4\nrules 0\nparts 0\n"
-    );
+fn rules_apply_where_they_cost_nothing(rt: HostRuntime) -> Result<(), Fail> {
+    for (small, wanted) in UNTANGLED {
+        let told = untangled(rt.alloc(), small)?;
+        assert_eq!(rt; told.as_str(), wanted);
+    }
     Ok(())
 }
 

@@ -25,42 +25,45 @@ fn is_known(alloc: Global, small: Small, branches: u16, told: &str) -> Result<bo
     Ok(found.as_str() == told)
 }
 
-#[test]
-fn two_lines_that_cross_are_ordered(rt: HostRuntime) -> Result<(), Fail> {
-    let told =
-        "/ 0 1/ 1 0\nrules 0\nparts 1\npart 1 1 3\nsplit 1 2\ntake 0\nsplit 3 2\ntake 1\nclose 0\ntake 0\nclose 0\ntake 1\nclose 0\nbranches 2\n";
-    assert!(rt; is_known(rt.alloc(), known::CROSSING, 2, told)?);
-    Ok(())
-}
+/// Problems with the branch nodes of their search, and what it tells.
+const KNOWN: [(Small, u16, &str); 5] = [
+    // Two lines cross between their segments.
+    (
+        known::CROSSING,
+        2,
+        "/ 0 1/ 1 0\nrules 0\nparts 1\npart 1 1 3\nsplit 1 2\ntake 0\nsplit 3 2\ntake 1\nclose 0\ntake 0\nclose 0\ntake 1\nclose 0\nbranches 2\n",
+    ),
+    // Two lines have all three connections.
+    (
+        known::CONNECTIONS,
+        3,
+        "/ 0 1/ 0 1/ 1 0\nrules 0\nparts 1\npart 21 0 1 2\nsplit 0 2\ntake 0\nsplit 1 2\ntake 0\nsplit 2 2\ntake 1\nclose 0\ntake 0\nclose 0\ntake 1\nclose 0\ntake 1\nclose 1 8 12\nbranches 3\n",
+    ),
+    // Lines that go on together are neighbours.
+    (
+        known::SEPARATION,
+        3,
+        "/ 0 2 1/ 0 2\nrules 0\nparts 1\npart 0 0 1\nsplit 0 3\ntake 0\nsplit 0 2\ntake 2\nsplit 1 2\ntake 0\nclose 0\ntake 2\nclose 0\ntake 1\nclose 0\ntake 2\nclose 0\ntake 1\nclose 0\nbranches 3\n",
+    ),
+    // The number order wins a tie.
+    (
+        known::TIE,
+        0,
+        "/ 0 1\nrules 0\nparts 1\npart 3 1\nclose 0\nbranches 0\n",
+    ),
+    // An important line stands where it crosses none.
+    (
+        known::IMPORTANT,
+        2,
+        "/ 0 1 2/ 0 2\nrules 0\nparts 1\npart 9 1 4\nsplit 1 3\ntake 0\nsplit 1 2\ntake 1\nclose 0\ntake 2\nclose 0\ntake 1\nclose 0\ntake 2\nclose 0\nbranches 2\n",
+    ),
+];
 
 #[test]
-fn two_lines_with_all_three_connections_are_ordered(rt: HostRuntime) -> Result<(), Fail> {
-    let told =
-        "/ 0 1/ 0 1/ 1 0\nrules 0\nparts 1\npart 21 0 1 2\nsplit 0 2\ntake 0\nsplit 1 2\ntake 0\nsplit 2 2\ntake 1\nclose 0\ntake 0\nclose 0\ntake 1\nclose 0\ntake 1\nclose 1 8 12\nbranches 3\n";
-    assert!(rt; is_known(rt.alloc(), known::CONNECTIONS, 3, told)?);
-    Ok(())
-}
-
-#[test]
-fn lines_that_go_on_together_are_neighbours(rt: HostRuntime) -> Result<(), Fail> {
-    let told =
-        "/ 0 2 1/ 0 2\nrules 0\nparts 1\npart 0 0 1\nsplit 0 3\ntake 0\nsplit 0 2\ntake 2\nsplit 1 2\ntake 0\nclose 0\ntake 2\nclose 0\ntake 1\nclose 0\ntake 2\nclose 0\ntake 1\nclose 0\nbranches 3\n";
-    assert!(rt; is_known(rt.alloc(), known::SEPARATION, 3, told)?);
-    Ok(())
-}
-
-#[test]
-fn the_number_order_wins_a_tie(rt: HostRuntime) -> Result<(), Fail> {
-    let told = "/ 0 1\nrules 0\nparts 1\npart 3 1\nclose 0\nbranches 0\n";
-    assert!(rt; is_known(rt.alloc(), known::TIE, 0, told)?);
-    Ok(())
-}
-
-#[test]
-fn an_important_line_stands_where_it_crosses_none(rt: HostRuntime) -> Result<(), Fail> {
-    let told =
-        "/ 0 1 2/ 0 2\nrules 0\nparts 1\npart 9 1 4\nsplit 1 3\ntake 0\nsplit 1 2\ntake 1\nclose 0\ntake 2\nclose 0\ntake 1\nclose 0\ntake 2\nclose 0\nbranches 2\n";
-    assert!(rt; is_known(rt.alloc(), known::IMPORTANT, 2, told)?);
+fn searches_tell_what_is_known(rt: HostRuntime) -> Result<(), Fail> {
+    for (small, branches, told) in KNOWN {
+        assert!(rt; is_known(rt.alloc(), small, branches, told)?, "{told}");
+    }
     Ok(())
 }
 

@@ -16,7 +16,7 @@ use crate::stop::ScriptStop;
 use command_inputs::{Inputs, Loaded, load, read_file};
 use edit_session::Session;
 use files_door::{Files, Sinks, Stop, Target};
-use map_base::{Steps, Text};
+use map_base::{Stage, Steps, Text};
 use map_method::MapSettings;
 use run_status::{Input, Refusal};
 use std::alloc::Global;
@@ -41,6 +41,7 @@ pub fn play_script<F: Files, S: Sinks, L: Ledger>(
     ensures later { S.faults sinks.old ≤ S.faults sinks.new }
     ensures steps { TakesSessionSteps (F.told files.old) (inputs_by inputs.now) steps.old steps.new }
 {
+    steps.enter(Stage::Reading);
     let loaded = load(alloc, inputs, files)?;
     let script = read_script(alloc, inputs, files)?;
     Ok(play(alloc, loaded, script.as_slice(), out, sinks, steps)?)

@@ -1,10 +1,9 @@
 //! Files and sinks in memory.
 
 use files_door::{
-    DoorFault, MemoryFiles, MemorySinks, Sinks, SteadyFiles, SteadySinks, Target, WriteStop,
-    read_all, write_all,
+    DoorFault, MemoryFiles, MemorySinks, Sinks, SteadyFiles, Target, WriteStop, read_all, write_all,
 };
-use map_base::{Limit, LimitKind, Text};
+use map_base::Text;
 use std::alloc::Global;
 use std::test::Fail;
 
@@ -18,29 +17,6 @@ fn folder(alloc: Global) -> Result<Vec<(Text, Vec<u8>)>, Fail> {
     files.push(file(alloc, "feed/stops.txt", b"later")?)?;
     files.push(file(alloc, "feed/trips.txt", b"")?)?;
     Ok(files)
-}
-
-#[test]
-fn reads_a_file_whole_or_says_why_not(rt: HostRuntime) -> Result<(), Fail> {
-    let mut files = SteadyFiles::with(folder(rt.alloc())?);
-    for (path, most, whole) in [("feed/stops.txt", 3, "abc"), ("feed/trips.txt", 0, "")] {
-        let bytes = read_all(rt.alloc(), &mut files, path, most)?;
-        assert_eq!(rt; bytes.as_slice(), whole.as_bytes());
-    }
-    let limit = Limit {
-        what: LimitKind::File,
-        found: 3,
-        most: 2,
-    };
-    for (path, most, fault) in [
-        ("feed/stops.txt", 2, DoorFault::TooLong(limit)),
-        ("feed/routes.txt", 9, DoorFault::Absent),
-        ("feed", 9, DoorFault::Absent),
-    ] {
-        let met = read_all(rt.alloc(), &mut files, path, most).err();
-        assert_eq!(rt; met, Some(fault));
-    }
-    Ok(())
 }
 
 #[test]
@@ -75,27 +51,6 @@ fn fails_at_the_listed_calls(rt: HostRuntime) -> Result<(), Fail> {
             }
         }
     }
-    Ok(())
-}
-
-#[test]
-fn keeps_what_each_target_was_given(rt: HostRuntime) -> Result<(), Fail> {
-    let map = Target::Path(Text::of(rt.alloc(), "map.svg")?);
-    let proof = Target::Path(Text::of(rt.alloc(), "map.cert")?);
-    let mut sinks = SteadySinks::none(rt.alloc());
-    sinks.begin(&map)?;
-    write_all(&mut sinks, b"first")?;
-    sinks.begin(&Target::Said)?;
-    write_all(&mut sinks, b"one ")?;
-    sinks.begin(&map)?;
-    write_all(&mut sinks, b"second")?;
-    sinks.begin(&Target::Said)?;
-    write_all(&mut sinks, b"two")?;
-    assert_eq!(rt; sinks.written(&map), Some(b"second".as_slice()));
-    assert_eq!(rt; sinks.written(&Target::Said), Some(b"one two".as_slice()));
-    assert_eq!(rt; sinks.written(&proof), None);
-    sinks.begin(&proof)?;
-    assert_eq!(rt; sinks.written(&proof), Some(b"".as_slice()));
     Ok(())
 }
 

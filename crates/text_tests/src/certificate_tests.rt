@@ -1,5 +1,4 @@
 use cert_file::{read_certificate, write_certificate};
-use decimal_text::BadText;
 use std::test::Fail;
 
 /// Texts of certificates.
@@ -21,84 +20,4 @@ fn reads_and_writes(rt: HostRuntime) -> Result<(), Fail> {
         assert_eq!(rt; shown, text);
     }
     Ok(())
-}
-
-/// Texts that are no certificate's, and where the first line begins that has not the form due there.
-const WRONG: [(&[u8], u64); 19] = [
-    (b"", 0),
-    (
-        b"octimap 1\r\ngraph 2 1 1\nwalk 0 0 0 E50\norder 0 0\ncost 0\nrules 0\nparts 0\n",
-        0,
-    ),
-    (b"octimap 3\ngraph 0 0 0\ncost 0\nrules 0\nparts 0\n", 0),
-    (
-        b"octimap 1\ngraph 2 1 99999999999999999999\nwalk 0 0 0 E50\norder 0 0\ncost 0\nrules 0\nparts 0\n",
-        10,
-    ),
-    (b"octimap 1\ngraph 10001 1 1\n", 10),
-    (
-        b"octimap 1\ngraph 2 1 1\nwalk 0 0 0 E00\norder 0 0\ncost 0\nrules 0\nparts 0\n",
-        22,
-    ),
-    (
-        b"octimap 1\ngraph 2 1 1\nwalk 0 0 0 E25 E25\norder 0 0\ncost 0\nrules 0\nparts 0\n",
-        22,
-    ),
-    (
-        b"octimap 1\ngraph 2 1 1\nwalk 0 0 0\norder 0 0\ncost 0\nrules 0\nparts 0\n",
-        22,
-    ),
-    (
-        b"octimap 1\ngraph 2 1 1\nwalk 0 0 0 E050\norder 0 0\ncost 0\nrules 0\nparts 0\n",
-        22,
-    ),
-    (
-        b"octimap 1\ngraph 2 1 1\nwalk 0 0 0 E10001\norder 0 0\ncost 0\nrules 0\nparts 0\n",
-        22,
-    ),
-    (
-        b"octimap 1\ngraph 2 1 1\nwalk 1 0 0 E50\norder 0 0\ncost 0\nrules 0\nparts 0\n",
-        22,
-    ),
-    (
-        b"octimap 1\ngraph 2 1 1\nwalk 0 0 0 E50\norder 0 4294967296\ncost 0\nrules 0\nparts 0\n",
-        37,
-    ),
-    (
-        b"octimap 1\ngraph 2 1 1\nwalk 0 0 0 E50\norder 0 3 1 3\ncost 0\nrules 0\nparts 0\n",
-        37,
-    ),
-    (
-        b"octimap 1\ngraph 2 1 1\nwalk 0 0 0 E50\norder 0 0\ncost -0\nrules 0\nparts 0\n",
-        47,
-    ),
-    (
-        b"octimap 1\ngraph 2 1 1\nwalk 0 0 0 E50\norder 0 0\ncost 0\nrules 20000001\nparts 0\n",
-        54,
-    ),
-    (
-        b"octimap 1\ngraph 2 1 1\nwalk 0 0 0 E50\norder 0 0\ncost 0\nrules 0\nparts 1\n",
-        70,
-    ),
-    (
-        b"octimap 1\ngraph 2 1 1\nwalk 0 0 0 E50\norder 0 0\ncost 0\nrules 0\nparts 0\n\n",
-        70,
-    ),
-    (
-        b"octimap 2\ngraph 2 1 1\nwalk 0 0 0 E50\norder 0 0\ncost 0\nrules 0\nparts 0\n",
-        22,
-    ),
-    (
-        b"octimap 2\ngraph 2 1 1\nimportance 0 1\nwalk 0 0 0 E50\norder 0 0\ncost 0\nrules 0\nparts 0\n",
-        22,
-    ),
-];
-
-#[test]
-fn finds_the_first_wrong_line(rt: HostRuntime) {
-    for (text, at) in WRONG {
-        assert!(rt;
-            matches!(read_certificate(rt.alloc(), text), Err(BadText::At { at: found }) if found == at)
-        );
-    }
 }

@@ -15,6 +15,7 @@ use disk_door::WriteError;
 use map_base::NoMemory;
 use map_run::inputs_of;
 use run_status::Status;
+use std::alloc::Global;
 use std::rt::Files;
 
 /// The lines that standard error gets after a run of the program on these words that ended with this status, each with an
@@ -44,6 +45,9 @@ fn of_command<R: Files + AllocGlobal + Clone + Drop>(
         Status::WriteFault => unwritten(rt.alloc(), fault),
         Status::BadEdit { line } => bad_edit(rt, &inputs, *line),
         Status::NoRoute { seg } => no_route(rt, command, &inputs, *seg),
+        Status::Spent { .. } | Status::Limit(_) | Status::NoMemory => {
+            of_size(rt.alloc(), is_import(command), status)
+        }
         _ => of_inputs(rt, &inputs, status),
     }
 }
@@ -61,17 +65,34 @@ fn of_inputs<R: Files + AllocGlobal + Clone + Drop>(
             bad_row(rt, inputs.feed, BadRow { table, row, why })
         }
         Status::Refuted(item) => refuted(alloc, item),
-        Status::Spent { branches, .. } => spent(alloc, *branches),
-        Status::Limit(limit) => above(alloc, *limit),
         Status::Missing { path } => missing(rt, path.as_str()),
         Status::ReadFault { path } => unread(rt, path.as_str()),
         Status::BadSettings(why) => bad_settings(rt, &inputs.options, why),
         Status::BadGraph(why) => bad_graph(rt, inputs.script, *why),
-        Status::NoMemory => no_memory(alloc),
         Status::Done
         | Status::Usage
         | Status::WriteFault
         | Status::NoRoute { .. }
-        | Status::BadEdit { .. } => Ok(String::new(alloc)),
+        | Status::BadEdit { .. }
+        | Status::Spent { .. }
+        | Status::Limit(_)
+        | Status::NoMemory => Ok(String::new(alloc)),
+    }
+}
+
+/// The lines where there is more of something than is worked on.
+fn of_size(alloc: Global, of_graph: bool, status: &Status) -> Result<String, NoMemory> {
+    match status {
+        Status::Spent { branches, .. } => spent(alloc, *branches, of_graph),
+        Status::Limit(limit) => above(alloc, *limit, of_graph),
+        _ => no_memory(alloc, of_graph),
+    }
+}
+
+/// Whether the command makes a map of a file with a line graph.
+fn is_import(command: &Command<'_>) -> bool {
+    match command {
+        Command::Import { .. } => true,
+        _ => false,
     }
 }

@@ -1,2 +1,4 @@
 mod Longer
-mod SmallGraph
+mod Each
+mod Consistency
+mod Drawn

@@ -1,16 +1,13 @@
-//! Tests of walks: the least free walks on small boards and on a large one, what walks cost and where they end, a drawing
-//! that is legal and one that is not, the homes and the drawing of a small graph, and moves.
+//! Tests of the least free walks on small boards and on a large one, and of moves. Nothing stands on this crate.
 #![tactic(auto)]
 
 #[cfg(test)]
 mod boards;
 #[cfg(test)]
-mod drawing_tests;
+mod drawings;
+#[cfg(test)]
+mod graphs;
 #[cfg(test)]
 mod move_tests;
-#[cfg(test)]
-mod route_tests;
-#[cfg(test)]
-mod small;
 #[cfg(test)]
 mod walk_tests;

@@ -1,27 +1,30 @@
 //! Tests of moves.
 
-use crate::small::one_line;
-use graph_core::LineGraph;
-use map_method::Spread;
+use crate::boards::{at, run};
+use crate::drawings::{bent_line, expect_walk};
+use crate::graphs::three_in_a_row;
+use octi_grid::{Dir, check_drawing};
 use octi_moves::improve;
-use segment_router::route;
 use std::test::Fail;
 
-/// A straight line of 50 steps stays as it is, and weighs what it costs.
+/// The middle one of three stations moves down by two steps, and the line over them becomes straight. The walks weighed
+/// 75 each: `NE2 E14` costs 66, and 1 for its turn, which counts nine times. They weigh 64 each in the end, and the node
+/// 12 for its two steps.
 #[test]
-#[tactic(auto, using(octi_moves::proofs::Nearer::near_more))]
-fn a_straight_line_stays(rt: HostRuntime) -> Result<(), Fail> {
-    let graph = LineGraph::new(one_line(rt.alloc())?);
-    match route(rt.alloc(), &graph, 0, Spread::Percent(0), 4) {
-        Err(_) => panic!(rt; "no drawing"),
-        Ok(drawing) => match improve(rt.alloc(), &graph, drawing, 5) {
-            Err(_) => panic!(rt; "no memory"),
-            Ok(improved) => {
-                assert_eq!(rt; improved.before, 200);
-                assert_eq!(rt; improved.after, 200);
-                assert_eq!(rt; improved.made, 0);
-            }
-        },
+fn the_middle_station_moves(rt: HostRuntime) -> Result<(), Fail> {
+    let graph = three_in_a_row(rt.alloc())?;
+    let drawing = bent_line(&rt, rt.alloc())?;
+    match check_drawing(rt.alloc(), &graph, &drawing) {
+        Err(_) => panic!(rt; "not legal"),
+        Ok(()) => {
+            let improved = improve(rt.alloc(), &graph, drawing, 5)?;
+            assert_eq!(rt; improved.made, 1);
+            assert_eq!(rt; improved.before, 150);
+            assert_eq!(rt; improved.after, 140);
+            let straight = [run(Dir::E, 16)];
+            expect_walk(&rt, &improved.drawing, 0, at(0, 0), straight.as_slice());
+            expect_walk(&rt, &improved.drawing, 1, at(16, 0), straight.as_slice());
+        }
     }
     Ok(())
 }

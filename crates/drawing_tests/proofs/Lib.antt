@@ -1,4 +1,0 @@
-mod Each
-mod Listed
-mod Consistency
-mod Drawn

@@ -1,0 +1,11 @@
+mod DualOrders
+mod Numbers
+mod NodeKinds
+mod Moves
+mod Terms
+mod Orders
+mod Pictures
+mod Certificates
+mod MadeAgain
+mod FeedAgain
+mod AfterExport

@@ -1,0 +1,2 @@
+mod ProofEnds
+mod CertificateEnds

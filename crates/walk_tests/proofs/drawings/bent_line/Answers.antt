@@ -1,0 +1,14 @@
+use Rattle.std.proofs.Common.{length, sym, ap, ◌∙◌}
+use Rattle.octi_grid.specs.Walks.{walk_by}
+use Rattle.grid_board.specs.Points.{are_near}
+use Rattle.walk_tests.proofs.Drawn.{origin, middle, bent_near}
+use Rattle.walk_tests.proofs.drawings.bent_line.Goals as goal
+
+pub returns-clause-each : goal.returns-clause-each
+returns-clause-each g c = ap length (c.of.ensures ∙ c.in_ok-walks.ensures.items)
+
+pub returns-clause-near : goal.returns-clause-near
+returns-clause-near g c =
+    ap (are_near 1900) (c.of.ensures ∙ c.in_ok-walks.ensures.items)
+    ∙ bent_near c.walk-first.result c.walk-second.result (ap (walk_by origin) (sym c.in_ok-up.ensures.items) ∙ c.walk-first.ensures)
+    (ap (walk_by middle) (sym c.in_ok-down.ensures.items) ∙ c.walk-second.ensures)
