@@ -1,5 +1,5 @@
 -- A node that stands at a free point, with the walks at it taken away: what routing begins with there.
-use Rattle.std.proofs.Common.{◌≡◌, ◌∙◌, ℕ, zero, suc, ◌+◌, ◌≤◌, ◌<◌, true, false, not, ◌||◌, eqb, pos, List, [], ◌∷◌, length, get_or, slice_get, Some, None, sym, ap, subst, arith, ◌⊎◌, inl, inr}
+use Rattle.std.proofs.Common.{◌≡◌, ◌∙◌, ℕ, ◌+◌, ◌≤◌, ◌<◌, true, false, not, ◌||◌, eqb, pos, List, [], length, get_or, slice_get, Some, None, sym, ap, subst, arith, ◌⊎◌, inl, inr}
 use Rattle.std.specs.List.{list_all, range_with_len, filter_map}
 use Rattle.std.proofs.lemmas.Bool.{and_from, and_parts, cases_eq, cases_lt, eqb-true, eq-eqb, ne_eqb, not-true, or_cases, or_left, or_right, true≢false}
 use Rattle.std.proofs.lemmas.List.{get_or_default, get_or-replicate, get_or-set_other, get_or-set_same, length-replicate, length-set}
@@ -10,11 +10,10 @@ use Rattle.map_base.specs.declared.ids.SegId.{SegId}
 use Rattle.graph_core.specs.declared.parts.GraphParts.{GraphParts}
 use Rattle.graph_core.specs.Consistent.{IsConsistent}
 use Rattle.graph_core.specs.Round.{ends_at}
-use Rattle.octi_grid.specs.declared.dir.Dir.{Dir}
 use Rattle.octi_grid.specs.declared.point.GridPoint.{GridPoint}
-use Rattle.octi_grid.specs.Ways.{doubled, doubled_from, points_from, step_from}
+use Rattle.octi_grid.specs.Ways.{doubled}
 use Rattle.octi_grid.specs.Walks.{doubled_of, end_point, points_of, PlainWalk}
-use Rattle.octi_grid.specs.Legal.{all_apart, are_apart, are_clockwise, is_among, is_even, legs_of, port_of, port_where, puts_by, Leg, Put}
+use Rattle.octi_grid.specs.Legal.{are_clockwise, is_among, is_even, legs_of, port_of, port_where, puts_by, Leg, Put}
 use Rattle.octi_grid.proofs.LegalLemmas.{some_or_none}
 use Rattle.octi_grid.proofs.MeetsLemmas.{apart_at, CommonEnd}
 use Rattle.octi_grid.proofs.PortsLemmas.{ports_at_node}

@@ -1,5 +1,5 @@
 -- Routes up to a limit.
-use Rattle.std.proofs.Common.{◌≡◌, refl, sym, ◌∙◌, ap, ap₂, subst, ℕ, ◌+◌, ◌*◌, ◌<◌, ◌≤◌, ◌⊎◌, inl, inr, Bool, true, false, cond, nat_le, List, ◌∷◌, map, Option, Some, None, ℤ, ◌-ℤ◌, unsigned_abs, arith}
+use Rattle.std.proofs.Common.{◌≡◌, refl, sym, ◌∙◌, ap, ap₂, ℕ, ◌+◌, ◌*◌, ◌<◌, inl, inr, Bool, true, false, cond, nat_le, List, ◌∷◌, map, Option, Some, None, ℤ, ◌-ℤ◌, unsigned_abs, arith}
 use Rattle.std.proofs.lemmas.Int.{ints}
 use Rattle.std.proofs.lemmas.Bool.{and_parts, leb-true}
 use Rattle.octi_grid.specs.declared.point.GridPoint.{GridPoint}

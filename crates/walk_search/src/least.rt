@@ -1,6 +1,6 @@
 //! The least free walk between two ends.
 
-ghost use Rattle.std.specs.Prelude.{◌≡◌, ◌≢◌, ◌<◌, ◌^◌, ◌↔◌, IfOk, IsTrue, true, false};
+ghost use Rattle.std.specs.Prelude.{◌≡◌, ◌≢◌, ◌<◌, ◌^◌, ◌↔◌, IfOk, IsTrue, Some, true, false};
 ghost use Rattle.state_search.specs.Searching.{IsKnownWithin};
 ghost use Rattle.walk_search.specs.Routes.{if_within, route, IsRouteUpTo};
 ghost use Rattle.grid_board.specs.Boards.{parts_of};
@@ -146,9 +146,16 @@ fn is_within(cost: Option<u64>, limit: Option<u64>) -> bool
 {
     match cost {
         None => false,
-        Some(known) => match limit {
-            None => true,
-            Some(most) => known <= most,
-        },
+        Some(known) => is_at_most(known, limit),
+    }
+}
+
+/// Whether a known cost is within a limit, if there is one.
+fn is_at_most(known: u64, limit: Option<u64>) -> bool
+    ensures { IsTrue result ↔ IsKnownWithin (Some known) limit }
+{
+    match limit {
+        None => true,
+        Some(most) => known <= most,
     }
 }
