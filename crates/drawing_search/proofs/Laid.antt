@@ -1,8 +1,8 @@
 -- A run is laid step by step along a walk that is cut.
-use Rattle.std.proofs.Common.{◌≡◌, refl, sym, ◌∙◌, ap, subst, ℕ, ◌+◌, ◌<◌, Bool, true, false, cond, nat_le, nat_lt, List, [], ◌∷◌, length, map, drop, get_or, Option, Some, None, inl, arith, length-drop}
+use Rattle.std.proofs.Common.{◌≡◌, refl, sym, ◌∙◌, ap, subst, ℕ, ◌+◌, ◌<◌, Bool, true, false, cond, nat_le, nat_lt, List, [], ◌∷◌, length, map, drop, get_or, set, Option, Some, None, inl, arith, length-drop}
 use Rattle.std.proofs.lemmas.Bool.{lt-ltb}
 use Rattle.std.proofs.lemmas.Bool.Decides.{nat_tests}
-use Rattle.std.proofs.lemmas.List.{drop_more}
+use Rattle.std.proofs.lemmas.List.{drop_more, set-get_or}
 use Rattle.std.specs.List.{range_with_len}
 use Rattle.map_base.specs.declared.ids.NodeId.{NodeId}
 use Rattle.map_base.specs.declared.ids.SegId.{SegId}
@@ -12,10 +12,11 @@ use Rattle.line_chains.specs.declared.chain.Chain.{Chain}
 use Rattle.line_chains.specs.declared.chain.ChainStep.{ChainStep}
 use Rattle.octi_grid.specs.declared.point.GridPoint.{GridPoint}
 use Rattle.octi_grid.specs.Walks.{cost_of, end_point, points_of, PlainWalk}
+use Rattle.segment_router.proofs.SettledLemmas.{nowhere}
 use Rattle.walk_search.specs.Routes.{if_within}
-use Rattle.run_laying.specs.Laying.{board_under, laid_along, run_walk, with_piece, with_pieces, Sketch}
+use Rattle.run_laying.specs.Laying.{board_under, from_low, laid_along, run_walk, with_piece, with_pieces, Sketch}
 use Rattle.run_laying.specs.Pieces.{cut_place, cuts_at, even_steps, pieces_of}
-use Rattle.run_laying.specs.Sketches.{is_standing, point_of_node, walk_in}
+use Rattle.run_laying.specs.Sketches.{is_standing, point_of_node, stood, walk_in, with_walk_of}
 use Rattle.run_laying.proofs.LaidRuns.{laid_further, IsLaying}
 use Rattle.run_laying.proofs.RunFacts.{end_below, leads_to}
 use Rattle.drawing_search.specs.Changes.{StandsAfter}
@@ -93,6 +94,16 @@ further : (graph : GraphParts) → IsConsistent graph → (n : NodeId) (t : Chai
 further graph fit n t [] v vs k w l e h some = absurd (omega arith)
 further graph fit n t (u ∷ us) v [] k w l e h some = absurd (omega (arith, h.each))
 further graph fit n t (u ∷ us) v (x ∷ xs) k w l e h some = laid_further graph fit n t u us v x xs k w l e h
+
+-- the segment has its piece, and the node to which it leads stands at the end of that, or stood there before
+pub piece_stood : (graph : GraphParts) (n : NodeId) (t : ChainStep) (w : PlainWalk) (k mid new : Sketch) (p : GridPoint) → mid ≡ with_walk_of k t.seg (Some (from_low graph t.seg n w)) → p ≡ end_point w → new ≡ stood mid t.to p → new ≡ with_piece graph n t w k
+piece_stood graph n t w k mid new p given at is = is ∙ ap (λ (j : Sketch). stood j t.to p) given ∙ ap (stood (with_walk_of k t.seg (Some (from_low graph t.seg n w))) t.to) at
+
+pub piece_kept : (graph : GraphParts) (n : NodeId) (t : ChainStep) (w : PlainWalk) (k mid : Sketch) → mid ≡ with_walk_of k t.seg (Some (from_low graph t.seg n w)) → is_standing k t.to.0 ≡ true → point_of_node k t.to.0 ≡ end_point w → mid ≡ with_piece graph n t w k
+piece_kept graph n t w k mid given stands at =
+    given
+    ∙ ap (λ (ps : List GridPoint). (let j : Sketch = record { bounds = k.bounds; points = ps; stand = k.stand; walks = set k.walks t.seg.0 (Some (from_low graph t.seg n w)) } in j)) (sym (ap (set k.points t.to.0) (sym at) ∙ set-get_or k.points t.to.0 nowhere))
+    ∙ ap (λ (fs : List Bool). (let j : Sketch = record { bounds = k.bounds; points = set k.points t.to.0 (end_point w); stand = fs; walks = set k.walks t.seg.0 (Some (from_low graph t.seg n w)) } in j)) (sym (ap (set k.stand t.to.0) (sym stands) ∙ set-get_or k.stand t.to.0 false))
 
 -- ---- step by step
 

@@ -97,9 +97,10 @@ impl Sketch {
         ensures { OnOk result (self.new ≡ with_piece graph.now from step (piece_along track.now.points.items track.now.steps.items start end) self.old) }
     {
         self.lay_piece(alloc, graph, from, step.seg, track, start, end)?;
-        if is_inner {
-            self.stand(step.to, track.points[end]);
+        if !is_inner {
+            return Ok(());
         }
+        self.stand(step.to, track.points[end]);
         Ok(())
     }
 
