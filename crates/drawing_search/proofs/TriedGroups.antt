@@ -18,7 +18,7 @@ use Rattle.drawing_search.specs.declared.group.Group.{Group}
 use Rattle.drawing_search.specs.declared.group.Vector.{Vector}
 use Rattle.drawing_search.specs.declared.lifting.Lifted.{Lifted}
 use Rattle.drawing_search.specs.Gains.{sketch_weight}
-use Rattle.drawing_search.specs.Lifting.{attempt_by, CameOf, IsLifted}
+use Rattle.drawing_search.specs.Lifting.{attempt_by, CameOf, IsLifted, IsTaken, IsTriedFrom}
 use Rattle.drawing_search.specs.Searched.{attempts_in}
 use Rattle.drawing_search.specs.Tries.{after_tries, after_try, if_below, tried, with_tried, without, IsSettled, Tried}
 use Rattle.drawing_search.proofs.Attempting.{lifted_alike}
@@ -165,28 +165,42 @@ module _ (scale : Scale) (graph : GraphParts) (first : List GridPoint) where
     pub all_tried : length (attempts_in g) ≤ i → now ≡ after_tries scale graph first most (attempts_in g) start
     all_tried past = ap (λ (more : List Attempt). after_tries scale graph first most more now) (sym (drop_all i (attempts_in g) past)) ∙ t.rest
 
-    module _ (v : Vector) (below : i < length (attempts_in g)) (is : get_or (attempts_in g) i (attempt_by g v) ≡ attempt_by g v) (room : made < most) where
-      one_tried : after_tries scale graph first most (drop (i + 1) (attempts_in g)) (with_tried now (tried scale graph first t.whole (attempt_by g v))) ≡ after_tries scale graph first most (attempts_in g) start
-      one_tried =
-          ap (λ b. after_tries scale graph first most (drop (i + 1) (attempts_in g)) (cond b now (with_tried now (tried scale graph first t.whole (attempt_by g v))))) (sym (lt-leb most made room))
+    -- the next attempt was made, or not
+    pub one_more : (v : Vector) → i < length (attempts_in g) → get_or (attempts_in g) i (attempt_by g v) ≡ attempt_by g v → (new : Sketch) (less more : ℕ) (m : Lifted) → IsTriedFrom scale graph first g most v t.whole made new less more m
+        → IsTrying g most start (i + 1) new less more m
+    one_more v below is new less more m h = record {
+      whole = h.next;
+      settled = h.taken.settled;
+      lifted = h.taken.lifted;
+      rest = ap (after_tries scale graph first most (drop (i + 1) (attempts_in g))) h.is
           ∙ ap (λ (a : Attempt). after_tries scale graph first most (drop (i + 1) (attempts_in g)) (after_try scale graph first most now a)) (sym is)
-          ∙ ap (λ (more : List Attempt). after_tries scale graph first most more now) (sym (drop_more (attempts_in g) i (attempt_by g v) below))
-          ∙ t.rest
+          ∙ ap (λ (rest : List Attempt). after_tries scale graph first most rest now) (sym (drop_more (attempts_in g) i (attempt_by g v) below))
+          ∙ t.rest;
+      few = h.taken.few;
+    }
 
-      pub none_more : (new : Sketch) → CameOf scale graph first g v t.whole k new None → IsTrying g most start (i + 1) new weight made l
-      none_more new came = record {
-        whole = t.whole;
-        settled = t.settled;
-        lifted = lifted_alike scale graph first g t.whole new k l came.1 t.lifted;
-        rest = ap (λ o. after_tries scale graph first most (drop (i + 1) (attempts_in g)) (with_tried now o)) (sym came.0) ∙ one_tried;
-        few = t.few;
-      }
+-- ---- one attempt, from a whole drawing
 
-      pub some_more : (new : Sketch) (less : ℕ) → CameOf scale graph first g v t.whole k new (Some less) → (off : Sketch) (m : Lifted) → IsLifted scale graph first g new off m → IsTrying g most start (i + 1) off less (made + 1) m
-      some_more new less came off m lifted = record {
-        whole = new;
-        settled = came.1;
-        lifted = lifted;
-        rest = ap (λ o. after_tries scale graph first most (drop (i + 1) (attempts_in g)) (with_tried now o)) (sym came.0) ∙ one_tried;
-        few = omega (arith, room);
-      }
+module _ (scale : Scale) (graph : GraphParts) (first : List GridPoint) (g : Group) (most : ℕ) (v : Vector) (whole k : Sketch) (weight made : ℕ) (l : Lifted) (taken : IsTaken scale graph first g most whole k weight made l) where
+  abbrev before : Tried
+  before = record { sketch = whole; made = made }
+
+  -- so many were made before
+  pub tried_full : made ≡ most → IsTriedFrom scale graph first g most v whole made k weight made l
+  tried_full full = record { next = whole; taken = taken; is = sym (ap (λ b. cond b before (with_tried before (tried scale graph first whole (attempt_by g v)))) (le-leb most made (omega (arith, full)))) }
+
+  -- it was not made
+  pub tried_none : made < most → (new : Sketch) → CameOf scale graph first g v whole k new None → IsTriedFrom scale graph first g most v whole made new weight made l
+  tried_none room new came = record {
+    next = whole;
+    taken = record { settled = taken.settled; lifted = lifted_alike scale graph first g whole new k l came.1 taken.lifted; few = taken.few };
+    is = sym (ap (λ b. cond b before (with_tried before (tried scale graph first whole (attempt_by g v)))) (lt-leb most made room) ∙ ap (with_tried before) came.0);
+  }
+
+  -- or it was
+  pub tried_some : made < most → (new : Sketch) (less : ℕ) → CameOf scale graph first g v whole k new (Some less) → (off : Sketch) (m : Lifted) → IsLifted scale graph first g new off m → IsTriedFrom scale graph first g most v whole made off less (made + 1) m
+  tried_some room new less came off m lifted = record {
+    next = new;
+    taken = record { settled = came.1; lifted = lifted; few = omega (arith, room) };
+    is = sym (ap (λ b. cond b before (with_tried before (tried scale graph first whole (attempt_by g v)))) (lt-leb most made room) ∙ ap (with_tried before) came.0);
+  }

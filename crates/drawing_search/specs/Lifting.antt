@@ -19,7 +19,7 @@ use Rattle.drawing_search.specs.Alike.{AreAlike}
 use Rattle.drawing_search.specs.Bounds.{HaveLeast, IsSmallLeast}
 use Rattle.drawing_search.specs.Changes.{stood_at, walked_by, AreApart, CanStandEach, CanWalkEach}
 use Rattle.drawing_search.specs.Gains.{sketch_weight}
-use Rattle.drawing_search.specs.Tries.{taken_off, tried, IsSettled}
+use Rattle.drawing_search.specs.Tries.{after_try, taken_off, tried, IsSettled, Tried}
 
 -- nodes stand again, and segments have their walks again
 abbrev pub put_back : Sketch → List (NodeId × GridPoint) → List (NodeId × GridPoint) → List (SegId × PlainWalk) → Sketch
@@ -75,3 +75,16 @@ pub record IsOff (scale : Scale) (graph : GraphParts) (first : List GridPoint) (
   pub fitting : IsFitting graph (attempt_by g v)
   pub lifted : IsLifted scale graph first g whole old l
   pub apart : AreApart g.nodes
+
+-- what the attempts of a group change was taken off a whole drawing of this weight, and so many attempts were made
+pub record IsTaken (scale : Scale) (graph : GraphParts) (first : List GridPoint) (g : Group) (most : ℕ) (whole k : Sketch) (weight made : ℕ) (l : Lifted) : Type 0 where
+  pub settled : IsSettled scale graph first whole weight
+  pub lifted : IsLifted scale graph first g whole k l
+  pub few : made ≤ most
+
+-- an attempt by a vector was made from a whole drawing, if it makes that lighter and not too many were made before; what its group
+-- changes is off the drawing that came of it
+pub record IsTriedFrom (scale : Scale) (graph : GraphParts) (first : List GridPoint) (g : Group) (most : ℕ) (v : Vector) (whole : Sketch) (before : ℕ) (k : Sketch) (weight made : ℕ) (l : Lifted) : Type 0 where
+  pub next : Sketch
+  pub taken : IsTaken scale graph first g most next k weight made l
+  pub is : (let f : Tried = record { sketch = next; made = made } in f) ≡ after_try scale graph first most (record { sketch = whole; made = before }) (attempt_by g v)

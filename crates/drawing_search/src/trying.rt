@@ -11,12 +11,13 @@ ghost use Rattle.octi_grid.specs.Ways.{after};
 ghost use Rattle.walk_search.specs.Moves.{direction};
 ghost use Rattle.grid_board.specs.Points.{is_near};
 ghost use Rattle.drawing_weights.specs.Scales.{apart_weight_by, scale_of};
+ghost use Rattle.run_laying.specs.Laying.{Sketch as Drawn};
 ghost use Rattle.run_laying.specs.Runs.{IsFitting};
 ghost use Rattle.run_laying.specs.Sketches.{lifted, point_of_node};
 ghost use Rattle.drawing_search.specs.Bounds.{gains_at_least, HaveBounds, IsSmallLeast};
 ghost use Rattle.drawing_search.specs.Changes.{all_moved, has_room, moved_by, point_after, stood_at, without_run, AreApart, AreLayable, AreLiftable, AreTakable, CanStandEach};
 ghost use Rattle.drawing_search.specs.Gains.{first_point, sketch_weight, IsField};
-ghost use Rattle.drawing_search.specs.Lifting.{IsAttempted, IsOff};
+ghost use Rattle.drawing_search.specs.Lifting.{IsAttempted, IsOff, IsTaken, IsTriedFrom};
 ghost use Rattle.drawing_search.specs.declared.group.Group.{Group as Groups};
 ghost use Rattle.drawing_search.specs.Searched.{attempts_in, attempts_of};
 ghost use Rattle.drawing_search.specs.Tries.{after_tries, AreAllLaid, IsSettled};
@@ -82,18 +83,43 @@ impl Search {
     {
         let mut lifted = lift(alloc, field, &mut self.sketch, group, self.weight)?;
         for i in 0..vectors_of(group.lengths) {
-            if self.made == most {
-                break;
-            }
             let vector = vector_of(group.lengths, i);
-            if let Some(weight) = self.attempt(alloc, field, group, &lifted, vector)? {
-                self.weight = weight;
-                self.made += 1;
-                lifted = lift(alloc, field, &mut self.sketch, group, weight)?;
-            }
+            lifted = self.try_vector(alloc, field, group, lifted, vector, most)?;
         }
         put_back(&mut self.sketch, lifted);
         Ok(())
+    }
+
+    /// Makes an attempt of a group, if that makes the drawing lighter and not so many were made before: what is off the board
+    /// then.
+    fn try_vector(
+        &mut self,
+        alloc: Global,
+        field: Field<'_>,
+        group: &Group,
+        lifted: Lifted,
+        vector: Vector,
+        most: u32,
+    ) -> Result<Lifted, NoMemory>
+        requires field { IsField field }
+        requires count { vector.count ≤ 8 }
+        requires off { IsOff (scale_of field.by) field.graph.now field.first.now group.now lifted vector self.old.sketch self.old.weight }
+        requires fitting { All (IsFitting field.graph.now) (attempts_in group.now) }
+        requires most { self.old.made ≤ most }
+        ensures { IfOk result (λ next. (whole : Drawn) → IsTaken (scale_of field.entry.by) field.entry.graph.now field.entry.first.now group.now most whole self.old.sketch self.old.weight self.old.made lifted
+            → IsTriedFrom (scale_of field.entry.by) field.entry.graph.now field.entry.first.now group.now most vector whole self.old.made self.new.sketch self.new.weight self.new.made next) }
+    {
+        if self.made == most {
+            return Ok(lifted);
+        }
+        match self.attempt(alloc, field, group, &lifted, vector)? {
+            None => Ok(lifted),
+            Some(weight) => {
+                self.weight = weight;
+                self.made += 1;
+                lift(alloc, field, &mut self.sketch, group, weight)
+            }
+        }
     }
 
     /// Makes an attempt where what it changes was taken off the board: what the drawing then weighs, if that is less than
