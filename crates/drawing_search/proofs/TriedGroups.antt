@@ -95,13 +95,7 @@ attempt_at g i d v h dir_is count_is =
 -- ---- what attempts leave
 
 module _ (scale : Scale) (graph : GraphParts) (first : List GridPoint) where
-  -- none is made once so many were
-  pub tries_full : (most : ℕ) (f : Tried) (more : List Attempt) → most ≤ f.made → after_tries scale graph first most more f ≡ f
-  tries_full most f [] full = refl
-  tries_full most f (a ∷ more) full =
-      ap (λ b. after_tries scale graph first most more (cond b f (with_tried f (tried scale graph first f.sketch a)))) (le-leb most f.made full) ∙ tries_full most f more full
-
-  -- or it weighs less, and one more was made
+  -- an attempt that is made leaves less weight, and is counted
   pub record IsAfter (most : ℕ) (f new : Tried) : Type 0 where
     pub lighter : sketch_weight scale graph first new.sketch ≤ sketch_weight scale graph first f.sketch
     pub more : f.made ≤ new.made
@@ -158,9 +152,6 @@ module _ (scale : Scale) (graph : GraphParts) (first : List GridPoint) where
   module _ (g : Group) (most : ℕ) (start : Tried) (i : ℕ) (k : Sketch) (weight made : ℕ) (l : Lifted) (t : IsTrying g most start i k weight made l) where
     abbrev now : Tried
     now = record { sketch = t.whole; made = made }
-
-    pub all_full : made ≡ most → now ≡ after_tries scale graph first most (attempts_in g) start
-    all_full full = sym (tries_full most now (drop i (attempts_in g)) (omega (arith, full))) ∙ t.rest
 
     pub all_tried : length (attempts_in g) ≤ i → now ≡ after_tries scale graph first most (attempts_in g) start
     all_tried past = ap (λ (more : List Attempt). after_tries scale graph first most more now) (sym (drop_all i (attempts_in g) past)) ∙ t.rest
