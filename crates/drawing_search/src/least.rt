@@ -1,12 +1,13 @@
 //! What runs add at least, and what their walks may cost.
 
-ghost use Rattle.std.specs.Prelude.{◌≡◌, ◌+◌, ◌*◌, ◌-◌, ◌/◌, ◌<◌, ◌≤◌, ◌==◌, ◌^◌, length, if◌then◌else◌, slice_index, All, IfOk};
+ghost use Rattle.std.specs.Prelude.{◌≡◌, ◌+◌, ◌*◌, ◌-◌, ◌/◌, ◌<◌, ◌≤◌, ◌==◌, ◌^◌, length, if◌then◌else◌, slice_index, All, IfOk, Some};
 ghost use Rattle.drawing_weights.specs.Scales.{scale_of};
 ghost use Rattle.octi_grid.specs.Ways.{number_of, reverse_of};
 ghost use Rattle.run_laying.specs.Runs.{IsRun};
 ghost use Rattle.run_laying.specs.Sketches.{is_standing, IsLegalSketch};
 ghost use Rattle.walk_search.specs.Moves.{direction};
 ghost use Rattle.walk_search.specs.Reaching.{reach_of};
+ghost use Rattle.walk_search.specs.Routes.{allows};
 ghost use Rattle.drawing_search.specs.Gains.{AreOnGraph, IsField};
 ghost use Rattle.drawing_search.specs.Least.{diagonal, free_nodes, is_free_node, ports_for, straight_way, turn_price, turns_at_least};
 ghost use Rattle.drawing_search.specs.Bounds.{overs_by, with_first_by, with_last_by, with_walk_by, AreOvers, IsLeastOf, IsSmallLeast, IsSmallOver};
@@ -173,11 +174,10 @@ impl<'a> Field<'a> {
         ensures value { result ≡ overs_by (scale_of self.entry.by) self.entry.graph.now sketch.now n.0 s port }
         ensures small { IsSmallOver result }
     {
-        if (ports >> port.index()) & 1 == 1 {
-            Some(self.turns_by(sketch, n, s, port))
-        } else {
-            None
+        if !allows(ports, port) {
+            return None;
         }
+        Some(self.turns_by(sketch, n, s, port))
     }
 
     /// What a turn of 45 degrees in the walk of a run weighs at least: nothing where it may lie at a node that no line goes
@@ -244,6 +244,13 @@ pub(crate) fn direction(number: usize) -> Dir
         6 => Dir::W,
         _ => Dir::NW,
     }
+}
+
+/// Whether ports, as bits, hold one.
+fn allows(ports: u8, port: Dir) -> bool
+    ensures { result ≡ allows ports (Some port) }
+{
+    (ports >> port.index()) & 1 == 1
 }
 
 /// How many turns of 45 degrees a walk makes at least that leaves by one direction, comes in another, and ends where a
