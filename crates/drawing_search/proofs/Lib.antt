@@ -57,3 +57,4 @@ mod GroupOf
 mod Passes
 mod Searches
 mod Beginning
+mod Built

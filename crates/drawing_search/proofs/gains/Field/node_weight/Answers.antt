@@ -55,7 +55,7 @@ returns-clause-weight c =
     let k = c.args.sketch.now in
     let n = c.args.n.0 in
     let all = c.loop-pair.invariant.weight
-        ∙ ap (sum_by (turn_in f.graph.now k n)) (take_all c.loop-pair.pair-index c.at-pair-items.result.now c.loop-pair-test.false ∙ c.at-pair-items.ensures ∙ pairs_read f c.requires.field n) in
+    ∙ ap (sum_by (turn_in f.graph.now k n)) (take_all c.loop-pair.pair-index c.at-pair-items.result.now c.loop-pair-test.false ∙ c.at-pair-items.ensures ∙ pairs_read f c.requires.field n) in
     ap₂ (λ a b. f.by.overs * a + b) all
     (c.apart_weight.ensures.weight
     ∙ ap (apart_weight_by (scale_of f.by) n (first_point f.first.now n)) c.point.ensures
