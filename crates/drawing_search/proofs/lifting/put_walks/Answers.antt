@@ -16,19 +16,19 @@ next k ms i m h is can =
 pub put_walk-requires-clause-segment : goal.put_walk-requires-clause-segment
 put_walk-requires-clause-segment c =
     let ms = c.args.walks.items in
-    let t = YieldsList-turn (YieldsList-from_vec ms cc cc) c.loop-s.yielded _ c.loop-s.yielded_by _ _ (c.in-Some.s, c.in-Some.walk) c.in-Some.is c.next.ensures.steps in
+    let t = YieldsList-turn (YieldsList-from_vec ms (cc) (cc)) c.loop-s.yielded _ c.loop-s.yielded_by _ _ (c.in-Some.s, c.in-Some.walk) c.in-Some.is c.next.ensures.steps in
     (next c.loop-s.sketch ms (length c.loop-s.yielded) (c.in-Some.s, c.in-Some.walk) t.0 t.1 c.loop-s.invariant.can).0.segment
 
 pub put_walk-requires-clause-free : goal.put_walk-requires-clause-free
 put_walk-requires-clause-free c =
     let ms = c.args.walks.items in
-    let t = YieldsList-turn (YieldsList-from_vec ms cc cc) c.loop-s.yielded _ c.loop-s.yielded_by _ _ (c.in-Some.s, c.in-Some.walk) c.in-Some.is c.next.ensures.steps in
+    let t = YieldsList-turn (YieldsList-from_vec ms (cc) (cc)) c.loop-s.yielded _ c.loop-s.yielded_by _ _ (c.in-Some.s, c.in-Some.walk) c.in-Some.is c.next.ensures.steps in
     (next c.loop-s.sketch ms (length c.loop-s.yielded) (c.in-Some.s, c.in-Some.walk) t.0 t.1 c.loop-s.invariant.can).0.free
 
 pub put_walk-requires-clause-inside : goal.put_walk-requires-clause-inside
 put_walk-requires-clause-inside c =
     let ms = c.args.walks.items in
-    let t = YieldsList-turn (YieldsList-from_vec ms cc cc) c.loop-s.yielded _ c.loop-s.yielded_by _ _ (c.in-Some.s, c.in-Some.walk) c.in-Some.is c.next.ensures.steps in
+    let t = YieldsList-turn (YieldsList-from_vec ms (cc) (cc)) c.loop-s.yielded _ c.loop-s.yielded_by _ _ (c.in-Some.s, c.in-Some.walk) c.in-Some.is c.next.ensures.steps in
     (next c.loop-s.sketch ms (length c.loop-s.yielded) (c.in-Some.s, c.in-Some.walk) t.0 t.1 c.loop-s.invariant.can).0.inside
 
 pub loop-s-preserved : goal.loop-s-preserved
@@ -37,7 +37,7 @@ loop-s-preserved c =
     let m = (c.in-Some.s, c.in-Some.walk) in
     let done = c.loop-s.yielded in
     let k = c.loop-s.sketch in
-    let t = YieldsList-turn (YieldsList-from_vec ms cc cc) done _ c.loop-s.yielded_by _ _ m c.in-Some.is c.next.ensures.steps in
+    let t = YieldsList-turn (YieldsList-from_vec ms (cc) (cc)) done _ c.loop-s.yielded_by _ _ m c.in-Some.is c.next.ensures.steps in
     let more : length (done ++ m ∷ []) ≡ length done + 1 = length_push done m in
     record {
       rest = ap (λ i. fold walked_by c.put_walk.new.sketch (drop i ms)) more
@@ -52,5 +52,5 @@ loop-s-preserved c =
 pub returns : goal.returns
 returns c =
     let ms = c.args.walks.items in
-    let all = YieldsList-end (YieldsList-from_vec ms cc cc) c.loop-s.yielded _ c.loop-s.yielded_by _ _ c.in-None.is c.next.ensures.steps in
+    let all = YieldsList-end (YieldsList-from_vec ms (cc) (cc)) c.loop-s.yielded _ c.loop-s.yielded_by _ _ c.in-None.is c.next.ensures.steps in
     sym (at_drop_all (fold walked_by c.loop-s.sketch) ms (length c.loop-s.yielded) (omega (arith, all.1))) ∙ c.loop-s.invariant.rest
