@@ -192,8 +192,9 @@ impl Search {
     {
         let mut total = 0u64;
         for i in 0..runs.len() {
-            let from = self.point_after(runs[i].from, moved, vector);
-            let to = self.point_after(end_of(&runs[i]), moved, vector);
+            let run = &runs[i];
+            let from = self.point_after(run.from, moved, vector);
+            let to = self.point_after(end_of(run), moved, vector);
             total = total.saturating_add(least[i].between(from, to));
         }
         total
