@@ -1,8 +1,9 @@
-use Rattle.std.proofs.Common.{◌≡◌, sym, ◌∙◌, ap, ap₂, ◌&&◌, not}
+use Rattle.std.proofs.Common.{◌≡◌, sym, ◌∙◌, ap, ap₂, subst, true, ◌&&◌, not}
 use Rattle.octi_grid.specs.declared.point.GridPoint.{GridPoint}
 use Rattle.octi_grid.specs.Ways.{doubled}
 use Rattle.grid_board.specs.declared.bounds.Bounds.{Bounds}
-use Rattle.grid_board.specs.Boards.{contains, BoardParts}
+use Rattle.grid_board.specs.Boards.{contains, doubled_bounds, parts_of, BoardParts}
+use Rattle.grid_board.proofs.Ways.{doubled_inside}
 use Rattle.run_laying.specs.Laying.{board_of}
 use Rattle.drawing_search.proofs.sketch.Sketch.is_open.Goals as goal
 
@@ -10,6 +11,13 @@ pub is_node-requires : goal.is_node-requires
 is_node-requires c =
     let p = c.args.p in
     ap (λ (b : Bounds). contains b p) (sym c.bounds.ensures.value) ∙ sym c.contains.ensures ∙ c.if-not-contains.false
+
+pub is_taken-requires : goal.is_taken-requires
+is_taken-requires c =
+    let p = c.args.p in
+    let b : Bounds = (parts_of c.self.inside.board).bounds in
+    subst (λ (q : GridPoint). contains (doubled_bounds b) q ≡ true) (sym c.doubled.ensures)
+    (doubled_inside b p (ap (λ (x : Bounds). contains x p) (sym c.bounds.ensures.value) ∙ sym c.contains.ensures ∙ c.if-not-contains.false))
 
 pub returns-then-not-contains : goal.returns-then-not-contains
 returns-then-not-contains c =
