@@ -1,17 +1,25 @@
 -- Groups that are listed one after another, and their attempts.
-use Rattle.std.proofs.Common.{◌≡◌, refl, sym, ◌∙◌, ap, ℕ, ◌+◌, ◌<◌, Bool, true, false, cond, List, [], ◌∷◌, ◌++◌, length, filter, map, drop, get_or, append_assoc, append-nil, arith}
+use Rattle.std.proofs.Common.{◌≡◌, refl, sym, ◌∙◌, ap, ℕ, zero, suc, ◌+◌, ◌<◌, Bool, true, false, cond, List, [], ◌∷◌, ◌++◌, length, filter, map, drop, get_or, append_assoc, append-nil, arith}
 use Rattle.std.proofs.lemmas.List.{drop_more, flat_map_more}
 use Rattle.std.proofs.lemmas.List.Elements.{filter-append}
 use Rattle.std.proofs.lemmas.List.FromFn.{map-range_with_len_more}
-use Rattle.std.specs.List.{flat_map, range_with_len}
+use Rattle.std.specs.List.{flat_map}
+use Rattle.std.specs.Prelude.{All}
 use Rattle.map_base.specs.declared.ids.NodeId.{NodeId}
+use Rattle.map_base.specs.declared.ids.SegId.{SegId}
+use Rattle.graph_core.specs.declared.parts.GraphParts.{GraphParts}
+use Rattle.graph_core.specs.Consistent.{IsConsistent}
 use Rattle.line_chains.specs.declared.chain.Chain.{Chain}
-use Rattle.line_chains.specs.Chains.{is_corner}
-use Rattle.run_laying.specs.Attempts.{Attempt}
+use Rattle.line_chains.specs.Chains.{end_of, ends_of, is_corner}
+use Rattle.segment_router.proofs.Places.{in_at}
+use Rattle.run_laying.specs.Attempts.{run_of, Attempt}
 use Rattle.run_laying.specs.Searches.{attempts_alone}
 use Rattle.drawing_search.specs.declared.group.Group.{Group}
+use Rattle.drawing_search.specs.Changes.{AreApart}
 use Rattle.drawing_search.specs.Searched.{attempts_in, attempts_of}
 use Rattle.line_straightening.specs.Groups.{all_nodes}
+use Rattle.line_straightening.specs.Straightening.{single_runs}
+use Rattle.line_straightening.proofs.Fitting.{single_is}
 
 pub one_group_more : (gs : List Group) (g : Group) → attempts_of (gs ++ g ∷ []) ≡ attempts_of gs ++ attempts_in g
 one_group_more gs g = sym (flat_map_more attempts_in [] gs g)
@@ -76,3 +84,34 @@ corner_more corners F old before new n so_far is =
         ≡ old ++ flat_map F (cond b (filter (is_corner corners) (all_nodes n) ++ record { 0 = n } ∷ []) (filter (is_corner corners) (all_nodes n)))
     by_test true = flat_map_more F old kept (record { 0 = n })
     by_test false = append-nil (old ++ flat_map F kept)
+
+-- all groups of a pass
+pub all_pushed : (a b c d e f u v w x y : List Attempt) → a ≡ [] → b ≡ a ++ u → c ≡ b ++ v → d ≡ c ++ w → e ≡ d ++ x → f ≡ e ++ y → f ≡ u ++ ((v ++ w) ++ (x ++ y))
+all_pushed a b c d e f u v w x y none first second third fourth fifth =
+    fifth
+    ∙ ap (λ (z : List Attempt). z ++ y) (fourth ∙ ap (λ (z : List Attempt). z ++ x) (third ∙ ap (λ (z : List Attempt). z ++ w) (second ∙ ap (λ (z : List Attempt). z ++ v) (first ∙ ap (λ (z : List Attempt). z ++ u) none))))
+    ∙ regroup
+  where
+    regroup : (((u ++ v) ++ w) ++ x) ++ y ≡ u ++ ((v ++ w) ++ (x ++ y))
+    regroup = simp append_assoc
+
+-- a node alone, or two, are apart
+pub one_apart : (n : NodeId) → AreApart (n ∷ [])
+one_apart n = (λ m there same. absurd (omega (arith, there.1)), tt)
+
+pub two_apart : (n m : NodeId) → (n.0 ≡ m.0 → ⊥) → AreApart (n ∷ m ∷ [])
+two_apart n m apart = (λ k there same. by_place there.0 there.1 there.2 same, one_apart m)
+  where
+    by_place : {k : NodeId} (i : ℕ) → i < 1 → get_or (m ∷ []) i k ≡ k → k.0 ≡ n.0 → ⊥
+    by_place zero h at same = apart (sym same ∙ ap (λ (x : NodeId). x.0) (sym at))
+    by_place (suc i) h at same = absurd (omega (arith, h))
+
+-- the ends of a segment are two nodes
+pub singles_apart : (graph : GraphParts) → IsConsistent graph → All (λ (c : Chain). c.from.0 ≡ (end_of c).0 → ⊥) (single_runs graph)
+singles_apart graph fit i d below = by_segment (single_is graph (get_or (single_runs graph) i d) (in_at (single_runs graph) i d below))
+  where
+    by_segment : (s : SegId) × (s.0 < length graph.ends) × (get_or (single_runs graph) i d ≡ run_of graph s) → (get_or (single_runs graph) i d).from.0 ≡ (end_of (get_or (single_runs graph) i d)).0 → ⊥
+    by_segment (s, h, is) same =
+        let order = (fit.ends s.0 (record { 0 = 0 }, record { 0 = 0 }) h).0 in
+        let ends : (ends_of graph s).0.0 ≡ (ends_of graph s).1.0 = ap (λ (c : Chain). c.from.0) (sym is) ∙ same ∙ ap (λ (c : Chain). (end_of c).0) is in
+        omega (arith, order, ends)
