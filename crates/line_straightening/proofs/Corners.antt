@@ -3,14 +3,15 @@ use Rattle.std.proofs.Common.{◌≡◌, refl, sym, ◌∙◌, ap, subst, ℕ, z
 use Rattle.std.proofs.lemmas.Bool.{and_from, and_parts, cases_eq, cases_lt, eq-eqb, eqb-true, lt-ltb, ltb-true, not-false, or_left, true≢false}
 use Rattle.std.proofs.lemmas.List.{get_or-drop, get_or-map, get_or-take, length-map, length-take}
 use Rattle.std.specs.Prelude.{slice_range}
+use Rattle.std.specs.List.{flat_map}
 use Rattle.map_base.specs.declared.ids.NodeId.{NodeId}
 use Rattle.map_base.specs.declared.ids.SegId.{SegId}
 use Rattle.graph_core.specs.declared.parts.GraphParts.{GraphParts}
 use Rattle.graph_core.specs.Consistent.{IsConsistent}
 use Rattle.line_chains.specs.declared.chain.Chain.{Chain}
 use Rattle.line_chains.specs.declared.chain.ChainStep.{ChainStep}
-use Rattle.line_chains.specs.Bends.{bend_place, bends_of, chain_bends, far_off, first_place, greatest, is_bent, last_place, node_at, off_of, offs_of, place_of, with_corner}
-use Rattle.line_chains.specs.Chains.{end_after, end_of, is_reached, nodes_along, nodes_of, plain_corners, ring_corners, round_of, with_ring}
+use Rattle.line_chains.specs.Bends.{bend_place, bends_of, chain_bends, corners_of, far_off, first_place, greatest, is_bent, last_place, node_at, off_of, offs_of, place_of, with_corner}
+use Rattle.line_chains.specs.Chains.{chains_of, end_after, end_of, is_reached, nodes_along, nodes_of, plain_corners, ring_corners, round_of, with_ring}
 use Rattle.octi_grid.proofs.Members.{in_append, In}
 use Rattle.run_laying.specs.Attempts.{inner_nodes}
 use Rattle.line_straightening.proofs.Ways.{HasCorners}
@@ -70,6 +71,9 @@ many_rings graph (m ∷ ns) corners = many_rings graph ns (with_ring graph corne
 
 pub ring_many : (graph : GraphParts) → IsConsistent graph → length (ring_corners graph) ≡ length graph.kinds
 ring_many graph fit = many_rings graph (nodes_of graph) (plain_corners graph) ∙ length-map graph.rounds (λ (round : List SegId). not (eqb (length round) 2)) ∙ fit.round_each
+
+pub corners_many : (graph : GraphParts) → IsConsistent graph → (cell : ℕ) → length (corners_of graph cell) ≡ length graph.kinds
+corners_many graph fit cell = many_corners (flat_map (chain_bends graph cell) (chains_of graph (ring_corners graph))) (ring_corners graph) ∙ ring_many graph fit
 
 pub ring_has : (graph : GraphParts) → IsConsistent graph → HasCorners graph (ring_corners graph)
 ring_has graph fit n node e = eqb-true (length (round_of graph n)) 2 (not-false (eqb (length (round_of graph n)) 2) (by_flag (get_or (plain_corners graph) n.0 false) refl))

@@ -20,3 +20,18 @@ push_ends-requires-clause-apart c = λ i d h. (c.requires.runs i d h).0.apart
 
 pub push_ends-requires-2-clause-apart : goal.push_ends-requires-2-clause-apart
 push_ends-requires-2-clause-apart c = subst (All (λ (x : Chain). x.from.0 ≡ (end_of x).0 → ⊥)) (sym (c.deref-2.ensures.value ∙ c.in_ok-singles.ensures)) (singles_apart c.args.graph.now c.nodes.ensures.fits)
+
+pub returns : goal.returns
+returns c =
+    let graph = c.args.graph.now in
+    let corners = c.args.corners.now in
+    let chains = c.args.chains.now in
+    let singles = c.in_ok-singles.ensures in
+    record {
+      attempts_are = all_pushed (attempts_of c.new-groups.result.items) (attempts_of c.push_alone.new.groups.items) (attempts_of c.push_corners.new.groups.items) (attempts_of c.push_ends.new.groups.items) (attempts_of c.push_nodes.new.groups.items)
+          (attempts_of c.push_ends-2.new.groups.items) (map attempts_alone chains) (flat_map (λ (n : NodeId). moves_of chains (n ∷ [])) (filter (is_corner corners) (nodes_of graph))) (flat_map (λ (x : Chain). moves_of chains (x.from ∷ end_of x ∷ [])) chains)
+          (flat_map (λ (n : NodeId). moves_of (single_runs graph) (n ∷ [])) (nodes_of graph)) (flat_map (λ (x : Chain). moves_of (single_runs graph) (x.from ∷ end_of x ∷ [])) (single_runs graph)) (ap attempts_of c.new-groups.ensures.items)
+          c.in_ok-push_alone.ensures.attempts c.in_ok-push_corners.ensures.attempts c.in_ok-push_ends.ensures.attempts c.in_ok-push_nodes.ensures.attempts c.in_ok-push_ends-2.ensures.attempts;
+      fitting = c.requires.fitting;
+      sound = c.in_ok-push_ends-2.ensures.sound;
+    }
