@@ -1,13 +1,19 @@
 -- A search begins with a whole drawing on its board, and ends with one.
-use Rattle.std.proofs.Common.{◌≡◌, refl, sym, ◌∙◌, ap, subst, ℕ, zero, suc, ◌+◌, ◌≤◌, Bool, true, not, List, [], ◌∷◌, length, map, get_or, replicate, Option, Some, None, arith}
-use Rattle.std.proofs.lemmas.List.{get_or-map, length-map}
+use Rattle.std.proofs.Common.{◌≡◌, refl, sym, ◌∙◌, ap, subst, ℕ, zero, suc, ◌+◌, ◌<◌, ◌≤◌, Bool, true, not, List, [], ◌∷◌, length, map, get_or, replicate, Option, Some, None, arith}
+use Rattle.std.proofs.lemmas.Bool.{and_from}
+use Rattle.std.proofs.lemmas.List.{get_or-map, get_or_default, length-map}
 use Rattle.std.proofs.lemmas.List.FromFn.{fill_by_all, length-map-range_with_len}
-use Rattle.std.specs.List.{filter_map, range_with_len}
+use Rattle.std.specs.List.{filter_map, list_all, range_with_len}
+use Rattle.std.specs.Prelude.{All}
 use Rattle.graph_core.specs.declared.parts.GraphParts.{GraphParts}
 use Rattle.graph_core.specs.Consistent.{IsConsistent}
 use Rattle.octi_grid.specs.declared.dir.Dir.TheVariants as dir
+use Rattle.octi_grid.specs.declared.point.GridPoint.{GridPoint}
+use Rattle.octi_grid.specs.Legal.{is_even}
 use Rattle.octi_grid.specs.Walks.{PlainWalk}
 use Rattle.grid_board.specs.declared.bounds.Bounds.{Bounds}
+use Rattle.grid_board.specs.Boards.{contains}
+use Rattle.grid_board.specs.Points.{are_near, is_near}
 use Rattle.segment_router.proofs.SettledLemmas.{nowhere}
 use Rattle.drawing_weights.specs.Drawn.{points_all, IsDrawn}
 use Rattle.drawing_weights.specs.Scales.{weight_by, Scale}
@@ -27,7 +33,9 @@ use Rattle.drawing_search.specs.Shown.{whole_sketch}
 use Rattle.drawing_search.specs.Tries.{IsSettled}
 use Rattle.drawing_search.specs.Trying.{walks_of, IsWhole}
 use Rattle.drawing_search.proofs.OnWalks.{same_weight, sketch_by_walks, IsGood}
+use Rattle.drawing_search.proofs.RunReads.{near_more}
 use Rattle.drawing_search.proofs.Searches.{IsBetweenPasses}
+use Rattle.drawing_search.proofs.Spans.{first_within, inside_near, past_bounds}
 
 -- an attempt that changes nothing
 abbrev no_attempt : Attempt
@@ -113,3 +121,33 @@ module _ (graph : GraphParts) (fit : IsConsistent graph) (scale : Scale) (margin
     on_board = subst (IsOnBoard graph (bounds_past margin first)) (sym drawing_is) (subst (λ (b : Bounds). IsOnBoard graph b (walks_of k)) good.bounds_same (whole_legal graph fit k good.legal good.complete));
     no_heavier = omega (arith, lighter, before_is, after_is);
   }
+
+-- what holds of all points of a list, by their places
+from_places : (test : GridPoint → Bool) (ps : List GridPoint) → ((n : ℕ) → n < length ps → test (get_or ps n nowhere) ≡ true) → list_all test ps ≡ true
+from_places test [] h = refl
+from_places test (p ∷ ps) h = and_from (test p) (list_all test ps) (h 0 (omega arith)) (from_places test ps (λ n below. h (suc n) (omega (arith, below))))
+
+-- the first drawing on its board
+module _ (graph : GraphParts) (fit : IsConsistent graph) (ws : List PlainWalk) (drawn : IsDrawn graph ws) (near : are_near 1900 ws ≡ true) (margin : ℕ) (small : margin ≤ 20) where
+  pub begins_on_board : IsOnBoard graph (bounds_past margin ws) ws
+  begins_on_board = record { bounds_fit = past_bounds ws near margin small; drawn = drawn; within = first_within ws near margin small }
+
+  good : IsGood graph (bounds_past margin ws) (whole_sketch (bounds_past margin ws) (points_all graph ws) ws)
+  good = whole_good graph fit (bounds_past margin ws) ws begins_on_board
+
+  pub points_many : length (points_all graph ws) ≡ length graph.kinds
+  points_many = length-map-range_with_len (point_of graph ws) 0 (length graph.kinds)
+
+  inside_at : (n : ℕ) → n < length (points_all graph ws) → contains (bounds_past margin ws) (get_or (points_all graph ws) n nowhere) ≡ true
+  inside_at n below = good.legal.inside n (good.complete.nodes n (omega (arith, below, points_many)))
+
+  pub first_inside : list_all (contains (bounds_past margin ws)) (points_all graph ws) ≡ true
+  first_inside = from_places (contains (bounds_past margin ws)) (points_all graph ws) inside_at
+
+  pub first_even : list_all is_even (points_all graph ws) ≡ true
+  first_even = from_places is_even (points_all graph ws) (λ n below. good.legal.even n (good.complete.nodes n (omega (arith, below, points_many))))
+
+  pub first_near : All (λ (p : GridPoint). is_near 1920 p ≡ true) (points_all graph ws)
+  first_near n d below =
+      ap (is_near 1920) (get_or_default (points_all graph ws) n d nowhere below)
+      ∙ near_more (1900 + margin) 1920 (omega (arith, small)) (get_or (points_all graph ws) n nowhere) (inside_near 1900 margin ws near (get_or (points_all graph ws) n nowhere) (inside_at n below))

@@ -12,7 +12,7 @@ mod Ranges
 mod Farther
 mod WalksOff
 mod RunEnds
-mod RunReads
+pub mod RunReads
 mod AskedWalks
 pub mod FewSteps
 mod Laid

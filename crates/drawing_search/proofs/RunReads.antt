@@ -1,7 +1,7 @@
 -- What a run is, as it is read step by step: all of it lies on the graph, and its ends are those of its first and last step.
 use Rattle.std.proofs.Common.{◌≡◌, refl, sym, ◌∙◌, ap, subst, ℕ, zero, suc, ◌+◌, ◌-◌, ◌<◌, ◌≤◌, true, List, [], ◌∷◌, length, get_or, arith}
 use Rattle.std.specs.Prelude.{nat_le, unsigned_abs, All}
-use Rattle.std.proofs.lemmas.Bool.{and_parts, leb-true}
+use Rattle.std.proofs.lemmas.Bool.{and_from, and_parts, le-leb, leb-true}
 use Rattle.map_base.specs.declared.ids.NodeId.{NodeId}
 use Rattle.graph_core.specs.declared.parts.GraphParts.{GraphParts}
 use Rattle.graph_core.specs.Consistent.{IsConsistent}
@@ -29,6 +29,11 @@ near_x most p e = leb-true (unsigned_abs p.x) most (and_parts (nat_le (unsigned_
 
 pub near_y : (most : ℕ) (p : GridPoint) → is_near most p ≡ true → unsigned_abs p.y ≤ most
 near_y most p e = leb-true (unsigned_abs p.y) most (and_parts (nat_le (unsigned_abs p.x) most) (nat_le (unsigned_abs p.y) most) e).1
+
+-- and what is near is so by a wider measure
+pub near_more : (few most : ℕ) → few ≤ most → (p : GridPoint) → is_near few p ≡ true → is_near most p ≡ true
+near_more few most h p e =
+    and_from (nat_le (unsigned_abs p.x) most) (nat_le (unsigned_abs p.y) most) (le-leb (unsigned_abs p.x) most (omega (arith, h, near_x few p e))) (le-leb (unsigned_abs p.y) most (omega (arith, h, near_y few p e)))
 
 -- nodes between steps, by their places
 pub inner_place : (ts : List ChainStep) (i : ℕ) (d : NodeId) → i + 1 < length ts → (i < length (inner_nodes ts)) × (get_or (inner_nodes ts) i d ≡ (get_or ts i no_step).to)

@@ -1,13 +1,10 @@
 -- What straightening promises comes of what a search does.
-use Rattle.std.proofs.Common.{◌≡◌, subst, ℕ, ◌+◌, ◌≤◌, true, unsigned_abs, List, get_or, arith}
-use Rattle.std.proofs.lemmas.Bool.{and_from, and_parts, le-leb, leb-true}
-use Rattle.std.specs.Prelude.{nat_le}
+use Rattle.std.proofs.Common.{◌≡◌, subst, ℕ, ◌+◌, ◌≤◌, true, List, get_or}
 use Rattle.std.specs.List.{list_all}
 use Rattle.graph_core.specs.declared.parts.GraphParts.{GraphParts}
 use Rattle.graph_core.specs.Consistent.{IsConsistent}
 use Rattle.line_chains.specs.Bends.{corners_of}
 use Rattle.line_chains.specs.Chains.{chains_of}
-use Rattle.octi_grid.specs.declared.point.GridPoint.{GridPoint}
 use Rattle.octi_grid.specs.Walks.{points_of, PlainWalk}
 use Rattle.octi_grid.proofs.Members.{all_at, all_from}
 use Rattle.grid_board.specs.Boards.{contains}
@@ -16,6 +13,7 @@ use Rattle.segment_router.proofs.Places.{in_at}
 use Rattle.run_laying.specs.Attempts.{bounds_past, Attempt}
 use Rattle.drawing_search.specs.declared.searching.Searched.{Searched}
 use Rattle.drawing_search.specs.Searched.{IsSearched}
+use Rattle.drawing_search.proofs.RunReads.{near_more}
 use Rattle.drawing_search.proofs.Spans.{inside_near}
 use Rattle.line_straightening.specs.Groups.{AreRunsOf}
 use Rattle.line_straightening.specs.Straightened.{IsStraightened}
@@ -42,12 +40,6 @@ straightened_of graph cell most first attempts s are found = of_search (subst (�
     }
 
 -- walks that lie near the origin lie near it by a wider measure
-near_more : (few most : ℕ) → few ≤ most → (p : GridPoint) → is_near few p ≡ true → is_near most p ≡ true
-near_more few most h p e =
-    let parts = and_parts (nat_le (unsigned_abs p.x) few) (nat_le (unsigned_abs p.y) few) e in
-    and_from (nat_le (unsigned_abs p.x) most) (nat_le (unsigned_abs p.y) most) (le-leb (unsigned_abs p.x) most (omega (arith, h, leb-true (unsigned_abs p.x) few parts.0)))
-    (le-leb (unsigned_abs p.y) most (omega (arith, h, leb-true (unsigned_abs p.y) few parts.1)))
-
 pub farther : (few most : ℕ) → few ≤ most → (walks : List PlainWalk) → are_near few walks ≡ true → are_near most walks ≡ true
 farther few most h walks e =
     all_from (λ (w : PlainWalk). list_all (is_near most) (points_of w)) walks
