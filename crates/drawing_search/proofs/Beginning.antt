@@ -148,6 +148,6 @@ module _ (graph : GraphParts) (fit : IsConsistent graph) (ws : List PlainWalk) (
   first_even = from_places is_even (points_all graph ws) (λ n below. good.legal.even n (good.complete.nodes n (omega (arith, below, points_many))))
 
   pub first_near : All (λ (p : GridPoint). is_near 1920 p ≡ true) (points_all graph ws)
-  first_near n d below =
+  first_near = λ n d below.
       ap (is_near 1920) (get_or_default (points_all graph ws) n d nowhere below)
       ∙ near_more (1900 + margin) 1920 (omega (arith, small)) (get_or (points_all graph ws) n nowhere) (inside_near 1900 margin ws near (get_or (points_all graph ws) n nowhere) (inside_at n below))

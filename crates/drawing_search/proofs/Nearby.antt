@@ -110,5 +110,5 @@ liftable_stands graph k (n ∷ ns) can m (inl e) = ap (λ (x : NodeId). is_stand
 liftable_stands graph k (n ∷ ns) can m (inr i) = stood_before graph k n m.0 can.0 (liftable_stands graph (lifted k n) ns can.1 m i)
 
 pub takable_stands : (graph : GraphParts) (k : Sketch) (c : Chain) → IsTakable graph k c → All (λ (n : NodeId). is_standing k n.0 ≡ true) (inner_nodes c.steps)
-takable_stands graph k c can i d below =
+takable_stands graph k c can = λ i d below.
     ap (λ (fs : List Bool). get_or fs (get_or (inner_nodes c.steps) i d).0 false) (sym (same_stand k c.steps)) ∙ liftable_stands graph (without_walks k c.steps) (inner_nodes c.steps) can.inner (get_or (inner_nodes c.steps) i d) (in_at (inner_nodes c.steps) i d below)

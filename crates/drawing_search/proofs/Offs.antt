@@ -35,7 +35,7 @@ use Rattle.drawing_search.proofs.Nearby.{on_board_near, stands_near}
 use Rattle.drawing_search.proofs.RunReads.{run_from, run_to}
 
 all_mapped : {X Y : Type 0} (P : Y → Type 0) (f : X → Y) (xs : List X) → ((x : X) → In x xs → P (f x)) → All P (map f xs)
-all_mapped P f xs h i d below = let found = from_map f xs (get_or (map f xs) i d) (in_at (map f xs) i d below) in subst P (sym found.2) (h found.0 found.1)
+all_mapped P f xs h = λ i d below. let found = from_map f xs (get_or (map f xs) i d) (in_at (map f xs) i d below) in subst P (sym found.2) (h found.0 found.1)
 
 module _ (graph : GraphParts) (fit : IsConsistent graph) (scale : Scale) (first : List GridPoint) (g : Group) (l : Lifted) (v : Vector) (old : Sketch) (weight : ℕ) (off : IsOff scale graph first g l v old weight) where
   below : (n : NodeId) → In n g.nodes → n.0 < length graph.kinds
@@ -58,7 +58,7 @@ module _ (graph : GraphParts) (fit : IsConsistent graph) (scale : Scale) (first 
       omega (arith, few, fit.few_nodes, ap length off.lifted.moved, length-map g.nodes (λ (n : NodeId). (n, point_of_node off.whole n.0)))
 
   pub moved_there : has_room old v l.moved.items ≡ true → All (λ (m : NodeId × GridPoint). is_near 2000 (moved_by v m.1) ≡ true) l.moved.items
-  moved_there room i d h =
+  moved_there room = λ i d h.
       let p = moved_by v (get_or l.moved.items i d).1 in
       let open_there : is_open old p ≡ true = all_at (λ (m : NodeId × GridPoint). is_open old (moved_by v m.1)) l.moved.items (get_or l.moved.items i d) room (in_at l.moved.items i d h) in
       on_board_near off.whole.bounds off.settled.legal.bounds p
@@ -66,10 +66,10 @@ module _ (graph : GraphParts) (fit : IsConsistent graph) (scale : Scale) (first 
 
   -- the ends of runs
   pub runs_from : All (λ (c : Chain). c.from.0 < length old.points) g.runs
-  runs_from i d h = omega (arith, run_from graph fit (get_or g.runs i d) (off.fitting.runs i d h), off.lifted.off.points_each, off.settled.legal.points_each)
+  runs_from = λ i d h. omega (arith, run_from graph fit (get_or g.runs i d) (off.fitting.runs i d h), off.lifted.off.points_each, off.settled.legal.points_each)
 
   pub runs_to : All (λ (c : Chain). (end_of c).0 < length old.points) g.runs
-  runs_to i d h = omega (arith, run_to graph fit (get_or g.runs i d) (off.fitting.runs i d h), off.lifted.off.points_each, off.settled.legal.points_each)
+  runs_to = λ i d h. omega (arith, run_to graph fit (get_or g.runs i d) (off.fitting.runs i d h), off.lifted.off.points_each, off.settled.legal.points_each)
 
   -- ---- what comes of an attempt
 

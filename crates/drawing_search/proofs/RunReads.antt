@@ -47,7 +47,7 @@ inner_stands k ts i all h = let at = inner_place ts i (record { 0 = 0 }) h in ap
 
 module _ (graph : GraphParts) (fit : IsConsistent graph) (c : Chain) (run : IsRun graph c) where
   pub run_on_graph : AreOnGraph graph c.steps
-  run_on_graph i d h = let s = step_of graph c.from c.steps run.steps (get_or c.steps i d) (in_at c.steps i d h) in (s.segment, end_below graph fit (get_or c.steps i d).seg (get_or c.steps i d).to.0 s.segment (leads_to graph s.from (get_or c.steps i d) s.leads))
+  run_on_graph = λ i d h. let s = step_of graph c.from c.steps run.steps (get_or c.steps i d) (in_at c.steps i d h) in (s.segment, end_below graph fit (get_or c.steps i d).seg (get_or c.steps i d).to.0 s.segment (leads_to graph s.from (get_or c.steps i d) s.leads))
 
   -- its ends are nodes of the graph
   pub run_from : c.from.0 < length graph.kinds

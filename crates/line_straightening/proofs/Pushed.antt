@@ -108,10 +108,10 @@ two_apart n m apart = (λ k there same. by_place there.0 there.1 there.2 same, o
 
 -- the ends of a segment are two nodes
 pub singles_apart : (graph : GraphParts) → IsConsistent graph → All (λ (c : Chain). c.from.0 ≡ (end_of c).0 → ⊥) (single_runs graph)
-singles_apart graph fit i d below = by_segment (single_is graph (get_or (single_runs graph) i d) (in_at (single_runs graph) i d below))
+singles_apart graph fit = λ i d below. by_segment (get_or (single_runs graph) i d) (single_is graph (get_or (single_runs graph) i d) (in_at (single_runs graph) i d below))
   where
-    by_segment : (s : SegId) × (s.0 < length graph.ends) × (get_or (single_runs graph) i d ≡ run_of graph s) → (get_or (single_runs graph) i d).from.0 ≡ (end_of (get_or (single_runs graph) i d)).0 → ⊥
-    by_segment (s, h, is) same =
+    by_segment : (c : Chain) → (s : SegId) × (s.0 < length graph.ends) × (c ≡ run_of graph s) → c.from.0 ≡ (end_of c).0 → ⊥
+    by_segment c (s, h, is) same =
         let order = (fit.ends s.0 (record { 0 = 0 }, record { 0 = 0 }) h).0 in
-        let ends : (ends_of graph s).0.0 ≡ (ends_of graph s).1.0 = ap (λ (c : Chain). c.from.0) (sym is) ∙ same ∙ ap (λ (c : Chain). (end_of c).0) is in
+        let ends : (ends_of graph s).0.0 ≡ (ends_of graph s).1.0 = ap (λ (x : Chain). x.from.0) (sym is) ∙ same ∙ ap (λ (x : Chain). (end_of x).0) is in
         omega (arith, order, ends)
