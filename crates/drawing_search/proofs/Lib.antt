@@ -17,6 +17,8 @@ mod AskedWalks
 pub mod FewSteps
 mod Laid
 mod LaySteps
+mod EvenPlaces
+mod RunSteps
 -- runs and nodes that are taken off and put back; drawings that differ where nodes lie that don't stand
 pub mod Takable
 mod Nearby
