@@ -10,7 +10,7 @@ use Rattle.std.specs.List.{list_any}
 use Rattle.map_base.specs.declared.ids.SegId.{SegId}
 use Rattle.graph_core.specs.declared.parts.GraphParts.{GraphParts}
 use Rattle.graph_core.specs.declared.parts.Join.{Join}
-use Rattle.graph_core.specs.Consistent.{IsConsistent}
+use Rattle.graph_core.specs.Consistent.{IsConsistent, IsJoin}
 use Rattle.line_chains.specs.declared.chain.ChainStep.{ChainStep}
 use Rattle.octi_grid.specs.declared.point.GridPoint.{GridPoint}
 use Rattle.octi_grid.proofs.Members.{In}
@@ -45,7 +45,7 @@ pub record IsJoined (graph : GraphParts) (n : ℕ) (p : SegId × SegId) : Type 0
 pub pair_joined : (graph : GraphParts) → IsConsistent graph → (n : ℕ) → n < length graph.kinds → (p : SegId × SegId) → In p (pairs_at graph n) → IsJoined graph n p
 pair_joined graph fit n node p m =
     let found = of_join (get_or graph.joins n []) p m in
-    let is = all_in _ (get_or graph.joins n []) found.0 (fit.joins n (omega (arith, node, fit.joins_each))) found.1 in
+    let is : IsJoin graph.lines (get_or graph.rounds n []) found.0 = all_in (IsJoin graph.lines (get_or graph.rounds n [])) (get_or graph.joins n []) found.0 (fit.joins n (omega (arith, node, fit.joins_each))) found.1 in
     subst (IsJoined graph n) (sym found.2)
     (record { order = is.order; lesser = in_from (get_or graph.rounds n []) found.0.e is.lesser; greater = in_from (get_or graph.rounds n []) found.0.f is.greater })
 
@@ -61,7 +61,7 @@ module _ (graph : GraphParts) (fit : IsConsistent graph) (n : ℕ) (node : n < l
 
   join_below : (j : Join) → In j here → (j.e.0 < length graph.ends) × (j.f.0 < length graph.ends)
   join_below j m =
-      let is = all_in _ here j (fit.joins n (omega (arith, node, fit.joins_each))) m in
+      let is : IsJoin graph.lines (get_or graph.rounds n []) j = all_in (IsJoin graph.lines (get_or graph.rounds n [])) here j (fit.joins n (omega (arith, node, fit.joins_each))) m in
       (in_round_below graph fit n node j.e is.lesser, in_round_below graph fit n node j.f is.greater)
 
   pub pair_below : (p : SegId × SegId) → In p (pairs_at graph n) → (p.0.0 < length graph.ends) × (p.1.0 < length graph.ends)

@@ -486,7 +486,7 @@ module _ (graph : GraphParts) (fit : IsConsistent graph) (k : Sketch) (h : IsLeg
 
   different_nodes : AreDifferent nodes
   different_nodes =
-      (none_of (end ∷ map (λ (m : NodeId). m.0) inner) from from_none, none_of (map (λ (m : NodeId). m.0) inner) end end_none, apart_different inner (inner_apart graph fit c.from c.steps run.steps run.once))
+      (none_of (end ∷ map (λ (m : NodeId). m.0) inner) from from_none, (none_of (map (λ (m : NodeId). m.0) inner) end end_none, apart_different inner (inner_apart graph fit c.from c.steps run.steps run.once)))
     where
       from_none : In from (end ∷ map (λ (m : NodeId). m.0) inner) → ⊥
       from_none (inl e) = run.apart e

@@ -124,7 +124,7 @@ rising (j ∷ js) s below low from = by_test (λ bound h. rising js (sorted_rest
     by_test rest false e = (from j (inl refl), omega (arith, below j (inl refl)), rest (join_code j + 1) (past e))
 
 pub few_pairs : (js : List Join) → AreSorted js → AreBelow js → length (joined_pairs js) ≤ 400000000
-few_pairs js s below = few_rising 0 (joined_pairs js) (omega arith) (rising js s below 0 (λ k m. omega arith))
+few_pairs js s below = let few = few_rising 0 (joined_pairs js) (omega arith) (rising js s below 0 (λ k m. omega arith)) in omega (arith, few)
 
 -- one join more
 pub pairs_more : (joins : List Join) (i : ℕ) (d j : Join) (f : Bool) (pairs new : List (SegId × SegId)) → i < length joins → AreSorted joins → j ≡ get_or joins i d → f ≡ same_as_next (get_or joins i d) (drop (i + 1) joins)

@@ -50,13 +50,13 @@ use Rattle.drawing_search.proofs.Takable.{on_or_off}
 
 -- a drawing has the walks of another, and more of them
 abbrev pub HasMore : Sketch → Sketch → Type 0
-HasMore k j = (t : SegId) → IsSameOrNone (walk_in k t) (walk_in j t)
+HasMore k j = (t : SegId) → (walk_in k t ≡ None) ⊎ (walk_in k t ≡ walk_in j t)
 
 module _ (graph : GraphParts) (k j : Sketch) (more : HasMore k j) where
   more_ports : (n : ℕ) (t : SegId) → IsSameOrNone (port_at_node graph (board_under k) n t) (port_at_node graph (board_under j) n t)
   more_ports n t = by_walk (more t)
     where
-      by_walk : IsSameOrNone (walk_in k t) (walk_in j t) → IsSameOrNone (port_by (ends_of graph t) n (walk_in k t)) (port_by (ends_of graph t) n (walk_in j t))
+      by_walk : (walk_in k t ≡ None) ⊎ (walk_in k t ≡ walk_in j t) → IsSameOrNone (port_by (ends_of graph t) n (walk_in k t)) (port_by (ends_of graph t) n (walk_in j t))
       by_walk (inl e) = inl (ap (port_by (ends_of graph t) n) e)
       by_walk (inr e) = inr (ap (port_by (ends_of graph t) n) e)
 
@@ -229,7 +229,7 @@ module _ (graph : GraphParts) (fit : IsConsistent graph) (scale : Scale) (first 
   has_more : (n : NodeId) (ts : List ChainStep) (vs : List PlainWalk) (k : Sketch) → ((q : ChainStep) → In q ts → walk_in k q.seg ≡ None) → HasMore k (with_pieces graph n ts vs k)
   has_more n ts vs k none t = by_run (on_or_off ts t)
     where
-      by_run : ((q : ChainStep) × In q ts × (q.seg.0 ≡ t.0)) ⊎ IsOff ts t → IsSameOrNone (walk_in k t) (walk_in (with_pieces graph n ts vs k) t)
+      by_run : ((q : ChainStep) × In q ts × (q.seg.0 ≡ t.0)) ⊎ IsOff ts t → (walk_in k t ≡ None) ⊎ (walk_in k t ≡ walk_in (with_pieces graph n ts vs k) t)
       by_run (inl (q, i, e)) = inl (ap (λ m. get_or k.walks m None) (sym e) ∙ none q i)
       by_run (inr off) = inr (sym (same_walk graph n ts vs k t off))
 

@@ -27,7 +27,7 @@ by_walk l first last overs way few = get_or-map-range_with_len (λ k. min (slice
 -- what a walk adds that comes by a port, if that is allowed
 abbrev value_if : Dir → ℕ → ℕ → ℕ → Dir → Option ℕ → List ℕ
 value_if first here price way e None = []
-value_if first here price way e (Some there) = here + there + price * turns_at_least first (reverse_of e) way ∷ []
+value_if first here price way e (Some there) = (here + there + price * turns_at_least first (reverse_of e) way) ∷ []
 
 module _ (first : Dir) (here : ℕ) (to : Dir → Option ℕ) where
   abbrev last_more : LeastTurns → Dir → LeastTurns

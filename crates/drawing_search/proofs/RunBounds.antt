@@ -148,9 +148,9 @@ is_priced scale graph ts = by_length (cases_Bool (eqb (length ts) 1))
 
     by_free : eqb (length ts) 1 ≡ false → (nat_lt 0 free ≡ true) ⊎ (nat_lt 0 free ≡ false) → IsPriced scale graph ts
     by_free e (inl some) = made 0 (ap (λ b. cond b (1 + scale.turns) rest) e ∙ ap (λ b. cond b 0 (min scale.overs (1 + scale.turns))) some) (omega arith, λ m i f. omega arith) (omega arith)
-    by_free e (inr no) =
-        let none : free ≡ 0 = grind (arith, nat_tests, no) in
-        made (min scale.overs (1 + scale.turns)) (ap (λ b. cond b (1 + scale.turns) rest) e ∙ ap (λ b. cond b 0 (min scale.overs (1 + scale.turns))) no) (omega arith, λ m i f. omega arith)
+    by_free e (inr off) =
+        let none : free ≡ 0 = grind (arith, nat_tests, off) in
+        made (min scale.overs (1 + scale.turns)) (ap (λ b. cond b (1 + scale.turns) rest) e ∙ ap (λ b. cond b 0 (min scale.overs (1 + scale.turns))) off) (omega arith, λ m i f. omega arith)
         (ap (λ n. min scale.overs (1 + scale.turns) * n) none ∙ omega arith)
 
     by_length : (eqb (length ts) 1 ≡ true) ⊎ (eqb (length ts) 1 ≡ false) → IsPriced scale graph ts

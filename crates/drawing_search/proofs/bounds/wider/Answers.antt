@@ -1,6 +1,6 @@
 use mir.Syntax.{w32}
 use mir.Val.{of_z, to_z}
-use Rattle.std.proofs.Common.{◌≡◌, ◌∙◌, ◌≤◌, ◌+ℤ◌, ◌-ℤ◌, ℕ, ℤ, pos, unsigned_abs, sym, ap, subst, arith}
+use Rattle.std.proofs.Common.{◌≡◌, ◌∙◌, ◌≤◌, ◌+ℤ◌, ◌-ℤ◌, ℕ, ℤ, pos, unsigned_abs, ap, arith}
 use Rattle.std.proofs.lemmas.Int.{ints}
 use Rattle.drawing_search.proofs.BoundParts.{same_bounds}
 use Rattle.drawing_search.proofs.bounds.wider.Goals as goal
@@ -14,15 +14,11 @@ less z m h k = omega (arith, ints)
 more : (z : ℤ) (m : ℕ) → unsigned_abs z ≤ 1900 → m ≤ 20 → unsigned_abs (z +ℤ pos m) ≤ 1920
 more z m h k = omega (arith, ints)
 
--- a bound as it is passed and read
-passed : (z : ℤ) → unsigned_abs z ≤ 1900 → unsigned_abs (to_z w32 (of_z w32 z)) ≤ 1900
-passed z h = subst (λ (y : ℤ). unsigned_abs y ≤ 1900) (sym (read z (omega (arith, h)))) h
+lower : (r z : ℤ) (m : ℕ) → unsigned_abs z ≤ 1900 → m ≤ 20 → r ≡ (to_z w32 (of_z w32 z) -ℤ pos m) → to_z w32 (of_z w32 r) ≡ (z -ℤ pos m)
+lower r z m h k e = ap (λ (y : ℤ). to_z w32 (of_z w32 y)) (e ∙ ap (λ (y : ℤ). y -ℤ pos m) (read z (omega (arith, h)))) ∙ read (z -ℤ pos m) (less z m h k)
 
-lower : (r z : ℤ) (m : ℕ) → unsigned_abs z ≤ 1900 → m ≤ 20 → r ≡ (to_z w32 (of_z w32 z) -ℤ pos m) → to_z w32 (of_z w32 r) ≡ (to_z w32 (of_z w32 z) -ℤ pos m)
-lower r z m h k e = ap (λ (y : ℤ). to_z w32 (of_z w32 y)) e ∙ read (to_z w32 (of_z w32 z) -ℤ pos m) (less (to_z w32 (of_z w32 z)) m (passed z h) k)
-
-higher : (r z : ℤ) (m : ℕ) → unsigned_abs z ≤ 1900 → m ≤ 20 → r ≡ (to_z w32 (of_z w32 z) +ℤ pos m) → to_z w32 (of_z w32 r) ≡ (to_z w32 (of_z w32 z) +ℤ pos m)
-higher r z m h k e = ap (λ (y : ℤ). to_z w32 (of_z w32 y)) e ∙ read (to_z w32 (of_z w32 z) +ℤ pos m) (more (to_z w32 (of_z w32 z)) m (passed z h) k)
+higher : (r z : ℤ) (m : ℕ) → unsigned_abs z ≤ 1900 → m ≤ 20 → r ≡ (to_z w32 (of_z w32 z) +ℤ pos m) → to_z w32 (of_z w32 r) ≡ (z +ℤ pos m)
+higher r z m h k e = ap (λ (y : ℤ). to_z w32 (of_z w32 y)) (e ∙ ap (λ (y : ℤ). y +ℤ pos m) (read z (omega (arith, h)))) ∙ read (z +ℤ pos m) (more z m h k)
 
 pub returns : goal.returns
 returns c =

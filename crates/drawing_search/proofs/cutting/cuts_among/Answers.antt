@@ -1,23 +1,13 @@
-use Rattle.std.proofs.Common.{◌≡◌, ℕ, ◌+◌, ◌-◌, ◌*◌, ◌/◌, ◌<◌, ◌≤◌, List, [], ◌∷◌, ◌++◌, length, map, get_or, sym, ap, ◌∙◌, arith}
-use Rattle.std.proofs.Math.Nat.{mul-div_cancel_left}
+use Rattle.std.proofs.Common.{◌≡◌, ℕ, ◌+◌, ◌-◌, ◌*◌, ◌/◌, List, [], ◌∷◌, ◌++◌, length, map, get_or, sym, ap, ◌∙◌, arith}
 use Rattle.std.proofs.lemmas.List.{map-append}
 use Rattle.std.specs.List.{range_with_len}
-use Rattle.run_laying.proofs.EvenCuts.{share_grows}
 use Rattle.drawing_search.proofs.Ranges.{range_more}
 use Rattle.drawing_search.proofs.cutting.cuts_among.Goals as goal
-
--- the place of a cut is among the places
-share_below : (i steps pieces : ℕ) → 0 < pieces → i ≤ pieces → i * steps / pieces ≤ steps
-share_below i steps pieces some h = let all : pieces * steps / pieces ≡ steps = mul-div_cancel_left steps some in omega (arith, share_grows i pieces steps pieces some h, all)
-
-pub index-requires : goal.index-requires
-index-requires c =
-    omega (arith, share_below c.loop-i.i (length c.args.places.now - 1) c.args.pieces c.requires.pieces (omega (arith, c.loop-i-test.true)), c.requires.enough)
 
 pub loop-i-preserved : goal.loop-i-preserved
 loop-i-preserved c =
     let places = c.args.places.now in
-    let place = (λ i. get_or places (i * (length places - 1) / c.args.pieces) 0) in
+    let place = (λ (i : ℕ). get_or places (i * (length places - 1) / c.args.pieces) 0) in
     let i = c.loop-i.i in
     c.in_ok-push.ensures.items
     ∙ ap (λ (v : List ℕ). v ++ place i ∷ []) c.loop-i.invariant

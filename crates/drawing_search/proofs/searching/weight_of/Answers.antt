@@ -13,7 +13,7 @@ sum_more f n = let same : 0 + n ≡ n = omega arith in ap (sum_by f) (range_more
 pub loop-s-preserved : goal.loop-s-preserved
 loop-s-preserved c =
     let more = sum_more (λ s. segment_weight (scale_of c.args.field.by) c.args.sketch.now (record { 0 = s })) c.loop-s.s in
-    record { weight = omega (arith, c.loop-s.invariant.weight, c.walk_at.ensures.weight, more); small = omega (arith, c.loop-s.invariant.small, c.walk_at.ensures.small) }
+    record { weight = omega (arith, c.loop-s.invariant.weight, c.walk_at-total.ensures.weight, more); small = omega (arith, c.loop-s.invariant.small, c.walk_at-total.ensures.small) }
 
 pub loop-n-init : goal.loop-n-init
 loop-n-init c =
@@ -22,13 +22,13 @@ loop-n-init c =
     let all = ap (λ n. sum_by (λ s. segment_weight (scale_of f.by) c.args.sketch.now (record { 0 = s })) (range_with_len 0 n)) at_end in
     record { weight = omega (arith, c.loop-s.invariant.weight, all); small = omega (arith, c.loop-s.invariant.small, at_end) }
 
-pub node_weight-requires-clause-stands : goal.node_weight-requires-clause-stands
-node_weight-requires-clause-stands c = c.requires.whole.nodes c.loop-n.n (omega (arith, c.loop-n-test.true, c.nodes-n-end.ensures.count, c.requires.legal.stand_each))
+pub node_weight-total-requires-clause-stands : goal.node_weight-total-requires-clause-stands
+node_weight-total-requires-clause-stands c = c.requires.whole.nodes c.loop-n.n (omega (arith, c.loop-n-test.true, c.nodes-n-end.ensures.count, c.requires.legal.stand_each))
 
 pub loop-n-preserved : goal.loop-n-preserved
 loop-n-preserved c =
     let more = sum_more (node_weight_in (scale_of c.args.field.by) c.args.field.graph.now c.args.field.first.now c.args.sketch.now) c.loop-n.n in
-    record { weight = omega (arith, c.loop-n.invariant.weight, c.node_weight.ensures.weight, more); small = omega (arith, c.loop-n.invariant.small, c.node_weight.ensures.small) }
+    record { weight = omega (arith, c.loop-n.invariant.weight, c.node_weight-total.ensures.weight, more); small = omega (arith, c.loop-n.invariant.small, c.node_weight-total.ensures.small) }
 
 pub returns-clause-weight : goal.returns-clause-weight
 returns-clause-weight c =

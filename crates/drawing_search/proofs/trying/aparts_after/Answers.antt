@@ -22,8 +22,8 @@ weigh_more f v ms i h =
     ∙ ap (sum_by f) (map-append (λ (m : NodeId × GridPoint). (m.0, moved_by v m.1)) (take i ms) (get_or ms i nobody ∷ []))
     ∙ sum_by_push f (all_moved v (take i ms)) ((get_or ms i nobody).0, moved_by v (get_or ms i nobody).1)
 
-pub apart_weight-requires-clause-near : goal.apart_weight-requires-clause-near
-apart_weight-requires-clause-near c = subst (λ (p : GridPoint). is_near 2000 p ≡ true) (sym c.after.ensures) (c.requires.there c.loop-known.known-index nobody c.loop-known-test.true)
+pub apart_weight-total-requires-clause-near : goal.apart_weight-total-requires-clause-near
+apart_weight-total-requires-clause-near c = subst (λ (p : GridPoint). is_near 2000 p ≡ true) (sym c.after.ensures) (c.requires.there c.loop-known.known-index nobody c.loop-known-test.true)
 
 pub loop-known-preserved : goal.loop-known-preserved
 loop-known-preserved c =
@@ -32,9 +32,9 @@ loop-known-preserved c =
     let ms = c.args.moved.now in
     let i = c.loop-known.known-index in
     let n = (get_or ms i nobody).0 in (
-      ap₂ (λ a b. a + b) c.loop-known.invariant.0 (c.apart_weight.ensures.weight ∙ ap (apart_weight_by scale n.0 (first_point first n.0)) c.after.ensures)
+      ap₂ (λ a b. a + b) c.loop-known.invariant.0 (c.apart_weight-total.ensures.weight ∙ ap (apart_weight_by scale n.0 (first_point first n.0)) c.after.ensures)
           ∙ sym (weigh_more (λ (m : NodeId × GridPoint). apart_weight_by scale m.0.0 (first_point first m.0.0) m.1) c.args.vector ms i c.loop-known-test.true),
-      omega (arith, c.loop-known.invariant.1, c.apart_weight.ensures.small),
+      omega (arith, c.loop-known.invariant.1, c.apart_weight-total.ensures.small),
     )
 
 pub returns-clause-weight : goal.returns-clause-weight

@@ -10,4 +10,4 @@ pub returns-clause-track : goal.returns-clause-track
 returns-clause-track c =
     let w = c.args.walk.now in
     let points = c.in_ok-push_points.ensures ∙ ap (λ (ps : List GridPoint). ps ++ points_of w) c.new-points.ensures.items in
-    subst (λ (ps : List GridPoint). IsTrack ps c.in_ok-steps.steps.items) (sym points) (subst (λ (ds : List Dir). IsTrack (points_of w) ds) (sym c.in_ok-steps.ensures) (track_of w c.runs.ensures.walk))
+    subst (λ (ps : List GridPoint). IsTrack ps c.in_ok-steps.steps.items) (sym points) (subst (λ (ds : List Dir). IsTrack (points_of w) ds) (sym c.in_ok-steps.ensures) (track_of w c.runs-runs.ensures.walk))

@@ -20,6 +20,9 @@ within_next ps ds t i p d h at is = subst IsWithin (on_step ps ds t i d h ∙ sy
 first_step : (ds : List Dir) (i : ℕ) (d : Dir) → i < length ds → take (i + 1 - i) (drop i ds) ≡ get_or ds i d ∷ []
 first_step ds i d h = let one : i + 1 - i ≡ 1 = omega arith in ap₂ (λ n (v : List Dir). take n v) one (drop_more ds i d h)
 
+pub index-requires : goal.index-requires
+index-requires c = omega (arith, long c.args.self.now.points.items c.args.self.now.steps.items c.requires.track, c.requires.order, c.requires.within)
+
 pub of_step-requires-clause-start : goal.of_step-requires-clause-start
 of_step-requires-clause-start c =
     let ps = c.args.self.now.points.items in

@@ -45,6 +45,9 @@ one_step ps ds t b i w d e h within is there turned =
     (back_more ps ds t (b - (i + 1)) b d (omega (arith, h)) (omega (arith, within))
     ∙ ap (λ n. map reverse_of (reverse (take (b - n) (drop n ds))) ++ reverse_of (get_or ds (b - (i + 1)) d) ∷ []) next))
 
+pub index-requires : goal.index-requires
+index-requires c = omega (arith, long c.args.self.now.points.items c.args.self.now.steps.items c.requires.track, c.requires.order, c.requires.within)
+
 pub of_step-requires-clause-start : goal.of_step-requires-clause-start
 of_step-requires-clause-start c =
     let ps = c.args.self.now.points.items in

@@ -29,8 +29,8 @@ one_more scale graph ts i b some h is =
 none_left : (scale : Scale) (graph : GraphParts) (ts : List ChainStep) (i : ℕ) → length ts ≤ i → free_nodes scale graph (drop (i - 1) ts) ≡ 0
 none_left scale graph ts i past = ap (λ (ns : List NodeId). length (filter (is_free_node scale graph) ns)) (inner_end ts i past)
 
-pub free_at-requires-clause-node : goal.free_at-requires-clause-node
-free_at-requires-clause-node c = (c.requires.steps (c.loop-i.i - 1) no_step (omega (arith, c.loop-i-test.true, c.loop-i.auto.i))).1
+pub free_at-count-requires-clause-node : goal.free_at-count-requires-clause-node
+free_at-count-requires-clause-node c = (c.requires.steps (c.loop-i.i - 1) no_step (omega (arith, c.loop-i-test.true, c.loop-i.auto.i))).1
 
 pub loop-i-preserved : goal.loop-i-preserved
 loop-i-preserved c =
@@ -40,9 +40,9 @@ loop-i-preserved c =
     let h = c.loop-i.invariant in
     let more = one_more (scale_of f.by) f.graph.now ts i (is_free_node (scale_of f.by) f.graph.now (get_or ts (i - 1) no_step).to) c.loop-i.auto.i c.loop-i-test.true refl in
     record {
-      all = omega (arith, h.all, more, c.free_at.ensures.count);
-      few = omega (arith, h.few, c.free_at.ensures.small);
-      within = omega (arith, h.few, c.free_at.ensures.small, c.loop-i-test.true);
+      all = omega (arith, h.all, more, c.free_at-count.ensures.count);
+      few = omega (arith, h.few, c.free_at-count.ensures.small);
+      within = omega (arith, h.few, c.free_at-count.ensures.small, c.loop-i-test.true);
     }
 
 pub returns-clause-count : goal.returns-clause-count

@@ -1,7 +1,6 @@
-use Rattle.std.proofs.Common.{◌≡◌, refl, sym, ◌∙◌, ap, ap₂, subst, ℕ, ◌+◌, ◌*◌, ◌<◌, Option, None, List, length, fold, get_or, replicate, take, arith}
+use Rattle.std.proofs.Common.{◌≡◌, refl, sym, ◌∙◌, ap, ap₂, subst, ℕ, ◌+◌, ◌*◌, ◌<◌, Option, None, List, length, map, fold, get_or, replicate, take, arith}
 use Rattle.std.proofs.lemmas.List.{get_or-replicate, take_all}
 use Rattle.std.proofs.lemmas.List.Sums.{fold_more}
-use Rattle.std.specs.Prelude.{slice_index}
 use Rattle.map_base.specs.declared.ids.NodeId.{NodeId}
 use Rattle.map_base.specs.declared.ids.SegId.{SegId}
 use Rattle.line_chains.specs.declared.chain.ChainStep.{ChainStep}
@@ -13,30 +12,30 @@ use Rattle.walk_search.specs.Moves.{direction}
 use Rattle.walk_search.specs.Routes.{directions}
 use Rattle.walk_search.proofs.Turning.{number_of-direction}
 use Rattle.drawing_search.specs.declared.least.LeastTurns.{LeastTurns}
-use Rattle.drawing_search.specs.Bounds.{with_first_by, AreOvers, IsSmallLeast}
+use Rattle.drawing_search.specs.Bounds.{overs_by, with_first_by}
 use Rattle.drawing_search.specs.Gains.{AreOnGraph}
 use Rattle.drawing_search.specs.Least.{free_nodes, turn_price}
 use Rattle.drawing_search.proofs.FewSteps.{run_few}
-use Rattle.drawing_search.proofs.LeastSteps.{never_small}
+use Rattle.drawing_search.proofs.LeastSteps.{least_of, never_small}
 use Rattle.drawing_search.proofs.LeastTurning.{least_of_all}
 use Rattle.drawing_search.proofs.RunReads.{no_step, reads_end, reads_first, reads_last, run_from, run_on_graph, run_to}
 use Rattle.drawing_search.proofs.gains.Field.least_turns.Goals as goal
 
-pub overs_at-from-requires-clause-node : goal.overs_at-from-requires-clause-node
-overs_at-from-requires-clause-node c = run_from c.args.self.graph.now c.requires.field.graph c.args.run.now c.requires.run
+pub overs_at-requires-clause-node : goal.overs_at-requires-clause-node
+overs_at-requires-clause-node c = run_from c.args.self.graph.now c.requires.field.graph c.args.run.now c.requires.run
 
-pub overs_at-from-requires-clause-segment : goal.overs_at-from-requires-clause-segment
-overs_at-from-requires-clause-segment c =
+pub overs_at-requires-clause-segment : goal.overs_at-requires-clause-segment
+overs_at-requires-clause-segment c =
     let graph = c.args.self.graph.now in
     subst (λ (ts : List ChainStep). (get_or ts 0 no_step).seg.0 < length graph.ends) (sym c.as_slice-steps.ensures) (run_on_graph graph c.requires.field.graph c.args.run.now c.requires.run 0 no_step c.requires.run.some).0
 
-pub overs_at-to-requires-clause-node : goal.overs_at-to-requires-clause-node
-overs_at-to-requires-clause-node c =
+pub overs_at-requires-2-clause-node : goal.overs_at-requires-2-clause-node
+overs_at-requires-2-clause-node c =
     let graph = c.args.self.graph.now in
     subst (λ (n : NodeId). n.0 < length graph.kinds) (sym (reads_end graph c.requires.field.graph c.args.run.now c.requires.run c.as_slice-steps.result.now c.as_slice-steps.ensures)) (run_to graph c.requires.field.graph c.args.run.now c.requires.run)
 
-pub overs_at-to-requires-clause-segment : goal.overs_at-to-requires-clause-segment
-overs_at-to-requires-clause-segment c =
+pub overs_at-requires-2-clause-segment : goal.overs_at-requires-2-clause-segment
+overs_at-requires-2-clause-segment c =
     let graph = c.args.self.graph.now in
     let run = c.args.run.now in
     subst (λ (ts : List ChainStep). (get_or ts (length ts - 1) no_step).seg.0 < length graph.ends) (sym c.as_slice-steps.ensures)
@@ -70,6 +69,28 @@ loop-i-preserved c =
       value = c.with_first.ensures.value
           ∙ ap₂ (λ (d : Dir) (o : Option ℕ). with_first_by c.loop-i.least d o to) c.direction.ensures (sym (ap (λ n. get_or from n None) (number_of-direction i few)))
           ∙ ap (λ (m : LeastTurns). step m (direction i)) c.loop-i.invariant.value
-          ∙ sym (fold_more step c.least.value directions i dir.N few);
+          ∙ sym (fold_more step (least_of (replicate 9 1125899906842624) c.turn_price.result (4 * c.free_nodes.result)) directions i dir.N few);
       small = c.with_first.ensures.small;
     }
+
+pub returns-clause-least : goal.returns-clause-least
+returns-clause-least c =
+    let f = c.args.self in
+    let graph = f.graph.now in
+    let run = c.args.run.now in
+    let scale = scale_of f.by in
+    let k = c.args.sketch.now in
+    let ts = c.as_slice-steps.result.now in
+    let same = c.as_slice-steps.ensures in
+    let l = least_of (replicate 9 1125899906842624) c.turn_price.result (4 * c.free_nodes.result) in
+    let from = c.in_ok-from.from in
+    let to = c.in_ok-to.to in
+    least_of_all scale graph k run l c.loop-i.least from to
+    (c.in_ok-from.ensures.overs ∙ ap (λ (s : SegId). map (overs_by scale graph k run.from.0 s) directions) (reads_first graph c.requires.field.graph run c.requires.run ts same))
+    (c.in_ok-to.ensures.overs
+    ∙ ap₂ (λ (n : NodeId) (s : SegId). map (overs_by scale graph k n.0 s) directions) (reads_end graph c.requires.field.graph run c.requires.run ts same) (reads_last graph c.requires.field.graph run c.requires.run ts same))
+    (λ way few. get_or-replicate {A = ℕ} 9 way 1125899906842624 0 few)
+    (c.turn_price.ensures.price ∙ ap (turn_price scale graph) same)
+    (ap (λ n. 4 * n) (c.free_nodes.ensures.count ∙ ap (free_nodes scale graph) same))
+    (c.loop-i.invariant.value ∙ ap (fold (λ (m : LeastTurns) (d : Dir). with_first_by m d (get_or from (number_of d) None) to) l) (take_all c.loop-i.i directions c.loop-i-test.false))
+    c.loop-i.invariant.small.each

@@ -10,23 +10,23 @@ use Rattle.drawing_search.proofs.FieldFacts.{no_pair, pair_at, pairs_held, pairs
 use Rattle.drawing_search.proofs.Nearby.{stands_near}
 use Rattle.drawing_search.proofs.gains.Field.node_weight.Goals as goal
 
-pub at-requires : goal.at-requires
-at-requires c = pairs_held c.args.self c.requires.field c.args.n.0 c.requires.node
+pub at-pair-items-requires : goal.at-pair-items-requires
+at-pair-items-requires c = pairs_held c.args.self c.requires.field c.args.n.0 c.requires.node
 
-pub turn-requires-clause-first : goal.turn-requires-clause-first
-turn-requires-clause-first c =
+pub turn-total-requires-clause-first : goal.turn-total-requires-clause-first
+turn-total-requires-clause-first c =
     (pair_at c.args.self c.requires.field c.args.n.0 c.requires.node c.at-pair-items.result.now c.at-pair-items.ensures c.loop-pair.pair-index c.loop-pair-test.true).0
 
-pub turn-requires-clause-second : goal.turn-requires-clause-second
-turn-requires-clause-second c =
+pub turn-total-requires-clause-second : goal.turn-total-requires-clause-second
+turn-total-requires-clause-second c =
     (pair_at c.args.self c.requires.field c.args.n.0 c.requires.node c.at-pair-items.result.now c.at-pair-items.ensures c.loop-pair.pair-index c.loop-pair-test.true).1
 
 pub loop-pair-preserved : goal.loop-pair-preserved
 loop-pair-preserved c =
     let more = sum_by_more (turn_in c.args.self.graph.now c.args.sketch.now c.args.n.0) c.at-pair-items.result.now c.loop-pair.pair-index no_pair c.loop-pair-test.true in
     record {
-      weight = omega (arith, c.loop-pair.invariant.weight, c.turn.ensures.turn, more);
-      small = omega (arith, c.loop-pair.invariant.small, c.turn.ensures.small);
+      weight = omega (arith, c.loop-pair.invariant.weight, c.turn-total.ensures.turn, more);
+      small = omega (arith, c.loop-pair.invariant.small, c.turn-total.ensures.small);
       within = omega (arith, c.loop-pair-test.true);
     }
 
