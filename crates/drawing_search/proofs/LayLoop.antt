@@ -3,7 +3,7 @@ use Rattle.std.proofs.Common.{◌≡◌, refl, sym, ◌∙◌, ap, ap₂, subst,
 use Rattle.std.proofs.lemmas.Bool.{lt-ltb, true≢false}
 use Rattle.std.proofs.lemmas.List.{drop_all, drop_more, take_more}
 use Rattle.std.specs.List.{list_any}
-use Rattle.std.specs.Prelude.{slice_index}
+use Rattle.std.specs.Prelude.{slice_index, All}
 use Rattle.map_base.specs.declared.ids.NodeId.{NodeId}
 use Rattle.graph_core.specs.declared.parts.GraphParts.{GraphParts}
 use Rattle.graph_core.specs.Consistent.{IsConsistent}
@@ -15,10 +15,10 @@ use Rattle.octi_grid.proofs.Members.{any_at, any_from, false_from, In}
 use Rattle.segment_router.proofs.Places.{all_in, in_at}
 use Rattle.walk_search.specs.Reaching.{reach_of}
 use Rattle.drawing_weights.specs.Scales.{Scale}
-use Rattle.run_laying.specs.Attempts.{is_on_runs}
+use Rattle.run_laying.specs.Attempts.{inner_nodes, is_on_runs}
 use Rattle.run_laying.specs.Laying.{all_laid, if_laid, laid, Sketch}
 use Rattle.run_laying.specs.Runs.{AreBeside, IsRun}
-use Rattle.run_laying.specs.Sketches.{point_of_node, IsFreeFor, IsLegalSketch}
+use Rattle.run_laying.specs.Sketches.{is_standing, point_of_node, IsFreeFor, IsLegalSketch}
 use Rattle.run_laying.proofs.Attempted.{laid_on, IsClearFor, IsLaidOn}
 use Rattle.drawing_search.specs.declared.least.LeastTurns.{LeastTurns}
 use Rattle.drawing_search.specs.Alike.{AreAlike}
@@ -71,6 +71,11 @@ module _ (graph : GraphParts) (fit : IsConsistent graph) (scale : Scale) (first 
   in_front (x ∷ xs) zero b m = absurd m
   in_front (x ∷ xs) (suc j) b (inl e) = inl e
   in_front (x ∷ xs) (suc j) b (inr m) = inr (in_front xs j b m)
+
+  at_front : (xs : List Chain) (j : ℕ) (d : Chain) → j < length xs → In (get_or xs j d) (take (suc j) xs)
+  at_front [] j d h = absurd (omega (arith, h))
+  at_front (x ∷ xs) zero d h = inl refl
+  at_front (x ∷ xs) (suc j) d h = inr (at_front xs j d (omega (arith, h)))
 
   front_beside : (j : ℕ) (xs : List Chain) → AreBeside xs → AreBeside (take j xs)
   front_beside zero xs beside = tt
@@ -136,6 +141,24 @@ module _ (graph : GraphParts) (fit : IsConsistent graph) (scale : Scale) (first 
       pub clear_next : IsClearFor k c
       clear_next = ready.clear c (inl refl)
 
+      pub free_next : IsFreeFor k c
+      free_next = record {
+        from = clear_next.from;
+        end = clear_next.end;
+        inner = λ j x h. clear_next.inner (get_or (inner_nodes c.steps) j x) (in_at (inner_nodes c.steps) j x h);
+        walks = λ j x h. clear_next.walks (get_or c.steps j x) (in_at c.steps j x h);
+      }
+
+      -- what is ahead then
+      pub left_ahead : (b : ℕ) → b ≡ reach_of from to + slice_index l.by (straight_way from to) → ahead - b ≡ least_of k cs ls
+      left_ahead b is = let next = next_ahead in omega (arith, next, is)
+
+      pub ahead_enough : (b : ℕ) → b ≡ reach_of from to + slice_index l.by (straight_way from to) → b ≤ ahead
+      ahead_enough b is = let next = next_ahead in omega (arith, next, is)
+
+      pub turns_enough : (b : ℕ) → b ≡ reach_of from to + slice_index l.by (straight_way from to) → slice_index l.by (straight_way from to) ≤ limit - 1 - weight - (ahead - b)
+      turns_enough b is = let next = next_ahead in omega (arith, next, is, a.less)
+
       room : sketch_weight scale graph first k + least_of k (c ∷ cs) (l ∷ ls) < limit
       room = let next = next_ahead in omega (arith, a.less, a.weight_is, next)
 
@@ -160,6 +183,11 @@ module _ (graph : GraphParts) (fit : IsConsistent graph) (scale : Scale) (first 
 
         pub mid_weight : sketch_weight scale graph first mid ≡ weight + run_gain scale graph first mid c
         mid_weight = let grown = (next_gained graph fit scale first c cs l ls k ready mid there).weight in omega (arith, grown, a.weight_is)
+
+        pub mid_inner : All (λ (m : NodeId). is_standing mid m.0 ≡ true) (inner_nodes c.steps)
+        mid_inner = λ j x h.
+            let same : suc i ≡ i + 1 = omega arith in
+            mid_so_far.inner c (subst (λ n. In c (take n runs)) same (at_front runs i d below)) (get_or (inner_nodes c.steps) j x) (in_at (inner_nodes c.steps) j x h)
 
         mid_rest : all_laid graph cs mid ≡ all_laid graph runs start
         mid_rest = ap (if_laid (all_laid graph cs)) (sym there) ∙ rest

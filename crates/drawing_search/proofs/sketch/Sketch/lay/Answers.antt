@@ -1,4 +1,4 @@
-use Rattle.std.proofs.Common.{◌≡◌, refl, sym, ◌∙◌, ap, subst, ◌+◌, ◌<◌, ◌≤◌, true, false, nat_le, List, [], length, arith}
+use Rattle.std.proofs.Common.{◌≡◌, refl, sym, ◌∙◌, ap, subst, ◌+◌, ◌<◌, ◌≤◌, true, false, nat_le, nat_lt, List, [], length, arith}
 use Rattle.std.specs.List.{list_all}
 use Rattle.std.specs.Prelude.{option_map, vec_items}
 use Rattle.line_chains.specs.declared.chain.ChainStep.{ChainStep}
@@ -71,7 +71,7 @@ lay_step-requires-clause-segment c =
         cut_run c.args.graph.now c.args.self.now c.args.run.now c.args.most c.in-Some-walk.walk c.in_ok-track.track.points.items c.in_ok-track.track.steps.items c.in-Some-cuts.cuts.items c.as_slice-steps.result.now
         (sym c.in-Some-walk.is ∙ c.in_ok-run_walk.ensures) c.in_ok-track.ensures.points c.in_ok-track.ensures.steps c.in_ok-track.ensures.track c.as_slice-steps.ensures (sym (ap (option_map vec_items) c.in-Some-cuts.is) ∙ c.in_ok-cuts.ensures) in
     let below = omega (arith, c.loop-i-test.true, ap length c.as_slice-steps.ensures) in
-    (step_here c.args.graph.now c.requires.graph c.args.self.now c.requires.legal c.args.run.now c.requires.run c.requires.free c.args.most c.in-Some-walk.walk c.in_ok-track.track.points.items c.in_ok-track.track.steps.items c.in-Some-cuts.cuts.items by c.loop-i.i c.index-2.result c.index-3.result 0 0 below c.index-2.ensures c.index-3.ensures c.loop-i.at c.loop-i.self (c.loop-i.invariant.left below) no_step no_walk c.loop-i.is_inner c.is_inner.ensures).segment
+    (step_here c.args.graph.now c.requires.graph c.args.self.now c.requires.legal c.args.run.now c.requires.run c.requires.free c.args.most c.in-Some-walk.walk c.in_ok-track.track.points.items c.in_ok-track.track.steps.items c.in-Some-cuts.cuts.items by c.loop-i.i c.index-2.result c.index-3.result 0 0 below c.index-2.ensures c.index-3.ensures c.loop-i.at c.loop-i.self (c.loop-i.invariant.left below) no_step no_walk (nat_lt (c.loop-i.i + 1) (length c.as_slice-steps.result.now)) (ap (λ (ts : List ChainStep). nat_lt (c.loop-i.i + 1) (length ts)) c.as_slice-steps.ensures)).segment
 
 pub lay_step-requires-clause-node : goal.lay_step-requires-clause-node
 lay_step-requires-clause-node c =
@@ -79,7 +79,7 @@ lay_step-requires-clause-node c =
         cut_run c.args.graph.now c.args.self.now c.args.run.now c.args.most c.in-Some-walk.walk c.in_ok-track.track.points.items c.in_ok-track.track.steps.items c.in-Some-cuts.cuts.items c.as_slice-steps.result.now
         (sym c.in-Some-walk.is ∙ c.in_ok-run_walk.ensures) c.in_ok-track.ensures.points c.in_ok-track.ensures.steps c.in_ok-track.ensures.track c.as_slice-steps.ensures (sym (ap (option_map vec_items) c.in-Some-cuts.is) ∙ c.in_ok-cuts.ensures) in
     let below = omega (arith, c.loop-i-test.true, ap length c.as_slice-steps.ensures) in
-    (step_here c.args.graph.now c.requires.graph c.args.self.now c.requires.legal c.args.run.now c.requires.run c.requires.free c.args.most c.in-Some-walk.walk c.in_ok-track.track.points.items c.in_ok-track.track.steps.items c.in-Some-cuts.cuts.items by c.loop-i.i c.index-2.result c.index-3.result 0 0 below c.index-2.ensures c.index-3.ensures c.loop-i.at c.loop-i.self (c.loop-i.invariant.left below) no_step no_walk c.loop-i.is_inner c.is_inner.ensures).node
+    (step_here c.args.graph.now c.requires.graph c.args.self.now c.requires.legal c.args.run.now c.requires.run c.requires.free c.args.most c.in-Some-walk.walk c.in_ok-track.track.points.items c.in_ok-track.track.steps.items c.in-Some-cuts.cuts.items by c.loop-i.i c.index-2.result c.index-3.result 0 0 below c.index-2.ensures c.index-3.ensures c.loop-i.at c.loop-i.self (c.loop-i.invariant.left below) no_step no_walk (nat_lt (c.loop-i.i + 1) (length c.as_slice-steps.result.now)) (ap (λ (ts : List ChainStep). nat_lt (c.loop-i.i + 1) (length ts)) c.as_slice-steps.ensures)).node
 
 pub lay_step-requires-clause-free : goal.lay_step-requires-clause-free
 lay_step-requires-clause-free c =
@@ -87,7 +87,7 @@ lay_step-requires-clause-free c =
         cut_run c.args.graph.now c.args.self.now c.args.run.now c.args.most c.in-Some-walk.walk c.in_ok-track.track.points.items c.in_ok-track.track.steps.items c.in-Some-cuts.cuts.items c.as_slice-steps.result.now
         (sym c.in-Some-walk.is ∙ c.in_ok-run_walk.ensures) c.in_ok-track.ensures.points c.in_ok-track.ensures.steps c.in_ok-track.ensures.track c.as_slice-steps.ensures (sym (ap (option_map vec_items) c.in-Some-cuts.is) ∙ c.in_ok-cuts.ensures) in
     let below = omega (arith, c.loop-i-test.true, ap length c.as_slice-steps.ensures) in
-    (step_here c.args.graph.now c.requires.graph c.args.self.now c.requires.legal c.args.run.now c.requires.run c.requires.free c.args.most c.in-Some-walk.walk c.in_ok-track.track.points.items c.in_ok-track.track.steps.items c.in-Some-cuts.cuts.items by c.loop-i.i c.index-2.result c.index-3.result 0 0 below c.index-2.ensures c.index-3.ensures c.loop-i.at c.loop-i.self (c.loop-i.invariant.left below) no_step no_walk c.loop-i.is_inner c.is_inner.ensures).free
+    (step_here c.args.graph.now c.requires.graph c.args.self.now c.requires.legal c.args.run.now c.requires.run c.requires.free c.args.most c.in-Some-walk.walk c.in_ok-track.track.points.items c.in_ok-track.track.steps.items c.in-Some-cuts.cuts.items by c.loop-i.i c.index-2.result c.index-3.result 0 0 below c.index-2.ensures c.index-3.ensures c.loop-i.at c.loop-i.self (c.loop-i.invariant.left below) no_step no_walk (nat_lt (c.loop-i.i + 1) (length c.as_slice-steps.result.now)) (ap (λ (ts : List ChainStep). nat_lt (c.loop-i.i + 1) (length ts)) c.as_slice-steps.ensures)).free
 
 pub lay_step-requires-clause-legal : goal.lay_step-requires-clause-legal
 lay_step-requires-clause-legal c = (c.loop-i.invariant.left (omega (arith, c.loop-i-test.true, ap length c.as_slice-steps.ensures))).laying.legal
@@ -98,7 +98,7 @@ lay_step-requires-clause-to c =
         cut_run c.args.graph.now c.args.self.now c.args.run.now c.args.most c.in-Some-walk.walk c.in_ok-track.track.points.items c.in_ok-track.track.steps.items c.in-Some-cuts.cuts.items c.as_slice-steps.result.now
         (sym c.in-Some-walk.is ∙ c.in_ok-run_walk.ensures) c.in_ok-track.ensures.points c.in_ok-track.ensures.steps c.in_ok-track.ensures.track c.as_slice-steps.ensures (sym (ap (option_map vec_items) c.in-Some-cuts.is) ∙ c.in_ok-cuts.ensures) in
     let below = omega (arith, c.loop-i-test.true, ap length c.as_slice-steps.ensures) in
-    stands_here c.args.graph.now c.requires.graph c.args.self.now c.requires.legal c.args.run.now c.requires.run c.requires.free c.args.most c.in-Some-walk.walk c.in_ok-track.track.points.items c.in_ok-track.track.steps.items c.in-Some-cuts.cuts.items by c.loop-i.i c.index-2.result c.index-3.result 0 0 below c.index-2.ensures c.index-3.ensures c.loop-i.at c.loop-i.self (c.loop-i.invariant.left below) no_step no_walk c.loop-i.is_inner c.is_inner.ensures
+    stands_here c.args.graph.now c.requires.graph c.args.self.now c.requires.legal c.args.run.now c.requires.run c.requires.free c.args.most c.in-Some-walk.walk c.in_ok-track.track.points.items c.in_ok-track.track.steps.items c.in-Some-cuts.cuts.items by c.loop-i.i c.index-2.result c.index-3.result 0 0 below c.index-2.ensures c.index-3.ensures c.loop-i.at c.loop-i.self (c.loop-i.invariant.left below) no_step no_walk (nat_lt (c.loop-i.i + 1) (length c.as_slice-steps.result.now)) (ap (λ (ts : List ChainStep). nat_lt (c.loop-i.i + 1) (length ts)) c.as_slice-steps.ensures)
 
 pub lay_step-requires-clause-track : goal.lay_step-requires-clause-track
 lay_step-requires-clause-track c = c.in_ok-track.ensures.track

@@ -14,11 +14,11 @@ use Rattle.drawing_search.proofs.AskedWalks.{none_asked, points_apart, walk_aske
 use Rattle.drawing_search.proofs.RunReads.{reads_end, reads_first, reads_last, run_from, run_to}
 use Rattle.drawing_search.proofs.sketch.Sketch.run_walk.Goals as goal
 
-pub ports_for-from_ports-requires-clause-node : goal.ports_for-from_ports-requires-clause-node
-ports_for-from_ports-requires-clause-node c = run_from c.args.graph.now c.requires.graph c.args.run.now c.requires.run
+pub ports_for-requires-clause-node : goal.ports_for-requires-clause-node
+ports_for-requires-clause-node c = run_from c.args.graph.now c.requires.graph c.args.run.now c.requires.run
 
-pub ports_for-to_ports-requires-clause-node : goal.ports_for-to_ports-requires-clause-node
-ports_for-to_ports-requires-clause-node c =
+pub ports_for-requires-2-clause-node : goal.ports_for-requires-2-clause-node
+ports_for-requires-2-clause-node c =
     let graph = c.args.graph.now in
     subst (λ (n : NodeId). n.0 < length graph.kinds) (sym (reads_end graph c.requires.graph c.args.run.now c.requires.run c.as_slice-steps.result.now c.as_slice-steps.ensures)) (run_to graph c.requires.graph c.args.run.now c.requires.run)
 

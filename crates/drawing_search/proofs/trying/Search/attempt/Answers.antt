@@ -30,29 +30,29 @@ returns-then-not-has_room c =
     attempt_no_room f.graph.now c.requires.field.graph (scale_of f.by) f.first.now c.args.group.now c.args.lifted.now c.args.vector s.sketch s.weight c.requires.off
     (ap (has_room s.sketch c.args.vector) (sym c.as_slice-moved.ensures.value) ∙ sym c.has_room.ensures ∙ c.if-not-has_room.true)
 
-pub aparts_after-requires-clause-nodes : goal.aparts_after-requires-clause-nodes
-aparts_after-requires-clause-nodes c =
+pub aparts_after-base-requires-clause-nodes : goal.aparts_after-base-requires-clause-nodes
+aparts_after-base-requires-clause-nodes c =
     let f = c.args.field in
     let s = c.args.self.now in
     subst (All (λ (m : NodeId × GridPoint). m.0.0 < length f.graph.now.kinds)) (sym c.as_slice-moved.ensures.value)
     (moved_nodes f.graph.now c.requires.field.graph (scale_of f.by) f.first.now c.args.group.now c.args.lifted.now c.args.vector s.sketch s.weight c.requires.off)
 
-pub aparts_after-requires-clause-few : goal.aparts_after-requires-clause-few
-aparts_after-requires-clause-few c =
+pub aparts_after-base-requires-clause-few : goal.aparts_after-base-requires-clause-few
+aparts_after-base-requires-clause-few c =
     let f = c.args.field in
     let s = c.args.self.now in
     let few = moved_few f.graph.now c.requires.field.graph (scale_of f.by) f.first.now c.args.group.now c.args.lifted.now c.args.vector s.sketch s.weight c.requires.off in
     omega (arith, few, ap length c.as_slice-moved.ensures.value)
 
-pub aparts_after-requires-clause-near : goal.aparts_after-requires-clause-near
-aparts_after-requires-clause-near c =
+pub aparts_after-base-requires-clause-near : goal.aparts_after-base-requires-clause-near
+aparts_after-base-requires-clause-near c =
     let f = c.args.field in
     let s = c.args.self.now in
     subst (All (λ (m : NodeId × GridPoint). is_near 2000 m.1 ≡ true)) (sym c.as_slice-moved.ensures.value)
     (moved_near f.graph.now c.requires.field.graph (scale_of f.by) f.first.now c.args.group.now c.args.lifted.now c.args.vector s.sketch s.weight c.requires.off)
 
-pub aparts_after-requires-clause-there : goal.aparts_after-requires-clause-there
-aparts_after-requires-clause-there c =
+pub aparts_after-base-requires-clause-there : goal.aparts_after-base-requires-clause-there
+aparts_after-base-requires-clause-there c =
     let f = c.args.field in
     let s = c.args.self.now in
     subst (All (λ (m : NodeId × GridPoint). is_near 2000 (moved_by c.args.vector m.1) ≡ true)) (sym c.as_slice-moved.ensures.value)
@@ -60,24 +60,24 @@ aparts_after-requires-clause-there c =
     (ap (has_room s.sketch c.args.vector) (sym c.as_slice-moved.ensures.value) ∙ sym c.has_room.ensures ∙ c.if-not-has_room.false))
 
 pub overflow_add-base : goal.overflow_add-base
-overflow_add-base c = omega (arith, c.aparts_after.ensures.small, c.requires.off.lifted.light, c.requires.off.settled.weight_is, c.requires.off.settled.small)
+overflow_add-base c = omega (arith, c.aparts_after-base.ensures.small, c.requires.off.lifted.light, c.requires.off.settled.weight_is, c.requires.off.settled.small)
 
-pub least_gains-ahead-requires-clause-near : goal.least_gains-ahead-requires-clause-near
-least_gains-ahead-requires-clause-near c =
+pub least_gains-requires-clause-near : goal.least_gains-requires-clause-near
+least_gains-requires-clause-near c =
     let f = c.args.field in
     let s = c.args.self.now in
     subst (All (λ (m : NodeId × GridPoint). is_near 2000 m.1 ≡ true)) (sym c.as_slice-moved.ensures.value)
     (moved_near f.graph.now c.requires.field.graph (scale_of f.by) f.first.now c.args.group.now c.args.lifted.now c.args.vector s.sketch s.weight c.requires.off)
 
-pub least_gains-ahead-requires-clause-from : goal.least_gains-ahead-requires-clause-from
-least_gains-ahead-requires-clause-from c =
+pub least_gains-requires-clause-from : goal.least_gains-requires-clause-from
+least_gains-requires-clause-from c =
     let f = c.args.field in
     let s = c.args.self.now in
     subst (All (λ (x : Chain). x.from.0 < length s.sketch.points)) (sym c.as_slice-runs.ensures)
     (runs_from f.graph.now c.requires.field.graph (scale_of f.by) f.first.now c.args.group.now c.args.lifted.now c.args.vector s.sketch s.weight c.requires.off)
 
-pub least_gains-ahead-requires-clause-to : goal.least_gains-ahead-requires-clause-to
-least_gains-ahead-requires-clause-to c =
+pub least_gains-requires-clause-to : goal.least_gains-requires-clause-to
+least_gains-requires-clause-to c =
     let f = c.args.field in
     let s = c.args.self.now in
     subst (All (λ (x : Chain). (end_of x).0 < length s.sketch.points)) (sym c.as_slice-runs.ensures)
