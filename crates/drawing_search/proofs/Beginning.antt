@@ -1,5 +1,5 @@
 -- A search begins with a whole drawing on its board, and ends with one.
-use Rattle.std.proofs.Common.{◌≡◌, refl, sym, ◌∙◌, ap, subst, ℕ, zero, suc, ◌+◌, ◌<◌, ◌≤◌, Bool, true, not, List, [], ◌∷◌, length, map, get_or, replicate, Option, Some, None, arith}
+use Rattle.std.proofs.Common.{◌≡◌, refl, sym, ◌∙◌, ap, ap₂, subst, ℕ, zero, suc, ◌+◌, ◌<◌, ◌≤◌, Bool, true, not, List, [], ◌∷◌, length, map, get_or, replicate, Option, Some, None, arith}
 use Rattle.std.proofs.lemmas.Bool.{and_from}
 use Rattle.std.proofs.lemmas.List.{get_or-map, get_or_default, length-map}
 use Rattle.std.proofs.lemmas.List.FromFn.{fill_by_all, length-map-range_with_len}
@@ -10,9 +10,9 @@ use Rattle.graph_core.specs.Consistent.{IsConsistent}
 use Rattle.octi_grid.specs.declared.dir.Dir.TheVariants as dir
 use Rattle.octi_grid.specs.declared.point.GridPoint.{GridPoint}
 use Rattle.octi_grid.specs.Legal.{is_even}
-use Rattle.octi_grid.specs.Walks.{PlainWalk}
+use Rattle.octi_grid.specs.Walks.{points_of, PlainWalk}
 use Rattle.grid_board.specs.declared.bounds.Bounds.{Bounds}
-use Rattle.grid_board.specs.Boards.{contains}
+use Rattle.grid_board.specs.Boards.{contains, AreBounds}
 use Rattle.grid_board.specs.Points.{are_near, is_near}
 use Rattle.segment_router.proofs.SettledLemmas.{nowhere}
 use Rattle.drawing_weights.specs.Drawn.{points_all, IsDrawn}
@@ -22,6 +22,7 @@ use Rattle.run_laying.specs.Attempts.{bounds_past, improving, is_inner, walk_bes
 use Rattle.run_laying.specs.Drawings.{IsOnBoard}
 use Rattle.run_laying.specs.Laying.{Sketch}
 use Rattle.run_laying.specs.Runs.{IsFitting}
+use Rattle.run_laying.specs.Sketches.{IsLegalSketch}
 use Rattle.run_laying.specs.Searches.{after_passes, searched, Found}
 use Rattle.run_laying.proofs.Kept.{kept_sketch}
 use Rattle.run_laying.proofs.Whole.{whole_legal}
@@ -151,3 +152,45 @@ module _ (graph : GraphParts) (fit : IsConsistent graph) (ws : List PlainWalk) (
   first_near = λ n d below.
       ap (is_near 1920) (get_or_default (points_all graph ws) n d nowhere below)
       ∙ near_more (1900 + margin) 1920 (omega (arith, small)) (get_or (points_all graph ws) n nowhere) (inside_near 1900 margin ws near (get_or (points_all graph ws) n nowhere) (inside_at n below))
+
+  -- as it is read
+  module _ (first : List GridPoint) (bounds : Bounds) (walks : List PlainWalk) (first_is : first ≡ points_all graph ws) (bounds_is : bounds ≡ bounds_past margin ws) (walks_is : walks ≡ ws) where
+    pub asked_bounds : AreBounds bounds
+    asked_bounds = subst AreBounds (sym bounds_is) begins_on_board.bounds_fit
+
+    pub asked_points : length first ≡ length graph.kinds
+    asked_points = ap length first_is ∙ points_many
+
+    pub asked_walks : length walks ≡ length graph.ends
+    asked_walks = ap length walks_is ∙ drawn.each
+
+    pub asked_inside : list_all (contains bounds) first ≡ true
+    asked_inside = ap₂ (λ (b : Bounds) (ps : List GridPoint). list_all (contains b) ps) bounds_is first_is ∙ first_inside
+
+    pub asked_even : list_all is_even first ≡ true
+    asked_even = ap (list_all is_even) first_is ∙ first_even
+
+    pub asked_within : list_all (λ (w : PlainWalk). list_all (contains bounds) (points_of w)) walks ≡ true
+    asked_within = ap₂ (λ (b : Bounds) (vs : List PlainWalk). list_all (λ (w : PlainWalk). list_all (contains b) (points_of w)) vs) bounds_is walks_is ∙ begins_on_board.within
+
+    pub asked_near : All (λ (p : GridPoint). is_near 1920 p ≡ true) first
+    asked_near = subst (All (λ (p : GridPoint). is_near 1920 p ≡ true)) (sym first_is) first_near
+
+    module _ (k : Sketch) (is : k ≡ whole_sketch bounds first walks) where
+      whole_of : k ≡ whole_sketch (bounds_past margin ws) (points_all graph ws) ws
+      whole_of = is ∙ ap₂ (λ (b : Bounds) (ps : List GridPoint). whole_sketch b ps walks) bounds_is first_is ∙ ap (whole_sketch (bounds_past margin ws) (points_all graph ws)) walks_is
+
+      pub begun_legal : IsLegalSketch graph k
+      begun_legal = subst (IsLegalSketch graph) (sym whole_of) good.legal
+
+      pub begun_whole : IsWhole k
+      begun_whole = subst IsWhole (sym whole_of) (whole_whole graph fit (bounds_past margin ws) ws begins_on_board)
+
+      pub begun : (scale : Scale) (groups : List Group) (at_once most before : ℕ) → before ≡ sketch_weight scale graph first k → before ≤ 144115188075855872 → IsBetweenPasses scale graph ws bounds groups at_once most before k before 0
+      begun scale groups at_once most before weighs few =
+          subst (λ (b : Bounds). IsBetweenPasses scale graph ws b groups at_once most before k before 0) (sym bounds_is)
+          (subst (λ (j : Sketch). IsBetweenPasses scale graph ws (bounds_past margin ws) groups at_once most before j before 0) (sym whole_of)
+          (search_begins graph fit (bounds_past margin ws) ws begins_on_board scale groups at_once most before (weighs ∙ ap₂ (sketch_weight scale graph) first_is whole_of) few))
+
+      pub first_weighs : (scale : Scale) (before : ℕ) → before ≡ sketch_weight scale graph first k → before ≡ sketch_weight scale graph (points_all graph ws) (whole_sketch (bounds_past margin ws) (points_all graph ws) ws)
+      first_weighs scale before weighs = weighs ∙ ap₂ (sketch_weight scale graph) first_is whole_of
