@@ -39,16 +39,16 @@ pub overflow_sub-ahead : goal.overflow_sub-ahead
 overflow_sub-ahead c =
     let f = c.args.field in
     let between =
-        c.between-ahead.ensures.value
-        ∙ ap₂ (λ (p q : GridPoint). reach_of p q + slice_index (get_or c.args.least.now c.loop-i.i no_least).by (straight_way p q)) c.point-from.ensures (c.point-to.ensures ∙ ap (λ (n : NodeId). point_of_node c.loop-i.self.sketch n.0) c.end_of-to.ensures) in
+    c.between-ahead.ensures.value
+    ∙ ap₂ (λ (p q : GridPoint). reach_of p q + slice_index (get_or c.args.least.now c.loop-i.i no_least).by (straight_way p q)) c.point-from.ensures (c.point-to.ensures ∙ ap (λ (n : NodeId). point_of_node c.loop-i.self.sketch n.0) c.end_of-to.ensures) in
     ahead_enough f.graph.now c.requires.field.graph (scale_of f.by) f.first.now c.args.runs.now c.args.least.now c.args.self.now.sketch c.args.self.now.weight c.requires.runs c.requires.each c.loop-i.i c.loop-i.self.sketch c.loop-i.weight c.loop-i.ahead c.loop-i.invariant.laying c.loop-i-test.true no_run no_least c.between-ahead.result between
 
 pub walk_limit-most-requires-clause-enough : goal.walk_limit-most-requires-clause-enough
 walk_limit-most-requires-clause-enough c =
     let f = c.args.field in
     let between =
-        c.between-ahead.ensures.value
-        ∙ ap₂ (λ (p q : GridPoint). reach_of p q + slice_index (get_or c.args.least.now c.loop-i.i no_least).by (straight_way p q)) c.point-from.ensures (c.point-to.ensures ∙ ap (λ (n : NodeId). point_of_node c.loop-i.self.sketch n.0) c.end_of-to.ensures) in
+    c.between-ahead.ensures.value
+    ∙ ap₂ (λ (p q : GridPoint). reach_of p q + slice_index (get_or c.args.least.now c.loop-i.i no_least).by (straight_way p q)) c.point-from.ensures (c.point-to.ensures ∙ ap (λ (n : NodeId). point_of_node c.loop-i.self.sketch n.0) c.end_of-to.ensures) in
     let enough = turns_enough f.graph.now c.requires.field.graph (scale_of f.by) f.first.now c.args.runs.now c.args.least.now c.args.self.now.sketch c.args.self.now.weight c.requires.runs c.requires.each c.loop-i.i c.loop-i.self.sketch c.loop-i.weight c.loop-i.ahead c.loop-i.invariant.laying c.loop-i-test.true no_run no_least c.between-ahead.result between in
     omega (arith, enough, c.loop-i.invariant.kept, ap₂ (λ (p q : GridPoint). slice_index (get_or c.args.least.now c.loop-i.i no_least).by (straight_way p q)) c.point-from.ensures (c.point-to.ensures ∙ ap (λ (n : NodeId). point_of_node c.loop-i.self.sketch n.0) c.end_of-to.ensures))
 
@@ -76,13 +76,13 @@ pub returns-then-not-lay-clause-laid : goal.returns-then-not-lay-clause-laid
 returns-then-not-lay-clause-laid c =
     let f = c.args.field in
     let between =
-        c.between-ahead.ensures.value
-        ∙ ap₂ (λ (p q : GridPoint). reach_of p q + slice_index (get_or c.args.least.now c.loop-i.i no_least).by (straight_way p q)) c.point-from.ensures (c.point-to.ensures ∙ ap (λ (n : NodeId). point_of_node c.loop-i.self.sketch n.0) c.end_of-to.ensures) in
+    c.between-ahead.ensures.value
+    ∙ ap₂ (λ (p q : GridPoint). reach_of p q + slice_index (get_or c.args.least.now c.loop-i.i no_least).by (straight_way p q)) c.point-from.ensures (c.point-to.ensures ∙ ap (λ (n : NodeId). point_of_node c.loop-i.self.sketch n.0) c.end_of-to.ensures) in
     let left = left_ahead f.graph.now c.requires.field.graph (scale_of f.by) f.first.now c.args.runs.now c.args.least.now c.args.self.now.sketch c.args.self.now.weight c.requires.runs c.requires.each c.loop-i.i c.loop-i.self.sketch c.loop-i.weight c.loop-i.ahead c.loop-i.invariant.laying c.loop-i-test.true no_run no_least c.between-ahead.result between in
     let limit =
-        c.walk_limit-most.ensures.value
-        ∙ ap₂ (λ (p q : GridPoint). limit_of (get_or c.args.least.now c.loop-i.i no_least) (c.loop-i.self.weight - 1 - c.loop-i.weight - (c.loop-i.ahead - c.between-ahead.result)) p q) c.point-from.ensures (c.point-to.ensures ∙ ap (λ (n : NodeId). point_of_node c.loop-i.self.sketch n.0) c.end_of-to.ensures)
-        ∙ ap₂ (λ w a. limit_of (get_or c.args.least.now c.loop-i.i no_least) (w - 1 - c.loop-i.weight - a) (point_of_node c.loop-i.self.sketch (get_or c.args.runs.now c.loop-i.i no_run).from.0) (point_of_node c.loop-i.self.sketch (end_of (get_or c.args.runs.now c.loop-i.i no_run)).0)) c.loop-i.invariant.kept left in
+    c.walk_limit-most.ensures.value
+    ∙ ap₂ (λ (p q : GridPoint). limit_of (get_or c.args.least.now c.loop-i.i no_least) (c.loop-i.self.weight - 1 - c.loop-i.weight - (c.loop-i.ahead - c.between-ahead.result)) p q) c.point-from.ensures (c.point-to.ensures ∙ ap (λ (n : NodeId). point_of_node c.loop-i.self.sketch n.0) c.end_of-to.ensures)
+    ∙ ap₂ (λ w a. limit_of (get_or c.args.least.now c.loop-i.i no_least) (w - 1 - c.loop-i.weight - a) (point_of_node c.loop-i.self.sketch (get_or c.args.runs.now c.loop-i.i no_run).from.0) (point_of_node c.loop-i.self.sketch (end_of (get_or c.args.runs.now c.loop-i.i no_run)).0)) c.loop-i.invariant.kept left in
     laid_given_up f.graph.now c.requires.field.graph (scale_of f.by) f.first.now c.args.runs.now c.args.least.now c.args.self.now.sketch c.args.self.now.weight c.requires.runs c.requires.each c.loop-i.i c.loop-i.self.sketch c.loop-i.invariant.laying.ready.legal c.loop-i.invariant.laying.so_far c.take_all.new.self.sketch c.take_all.ensures.sketch (lay_fails f.graph.now c.requires.field.graph (scale_of f.by) f.first.now c.args.runs.now c.args.least.now c.args.self.now.sketch c.args.self.now.weight c.requires.runs c.requires.each c.loop-i.i c.loop-i.self.sketch c.loop-i.weight c.loop-i.ahead c.loop-i.invariant.laying c.loop-i-test.true no_run no_least c.walk_limit-most.result limit c.in_ok-lay.ensures.0)
 
 pub run_gain-weight-requires-clause-legal : goal.run_gain-weight-requires-clause-legal
@@ -104,13 +104,13 @@ pub returns-then-weight-self-clause-laid : goal.returns-then-weight-self-clause-
 returns-then-weight-self-clause-laid c =
     let f = c.args.field in
     let between =
-        c.between-ahead.ensures.value
-        ∙ ap₂ (λ (p q : GridPoint). reach_of p q + slice_index (get_or c.args.least.now c.loop-i.i no_least).by (straight_way p q)) c.point-from.ensures (c.point-to.ensures ∙ ap (λ (n : NodeId). point_of_node c.loop-i.self.sketch n.0) c.end_of-to.ensures) in
+    c.between-ahead.ensures.value
+    ∙ ap₂ (λ (p q : GridPoint). reach_of p q + slice_index (get_or c.args.least.now c.loop-i.i no_least).by (straight_way p q)) c.point-from.ensures (c.point-to.ensures ∙ ap (λ (n : NodeId). point_of_node c.loop-i.self.sketch n.0) c.end_of-to.ensures) in
     let left = left_ahead f.graph.now c.requires.field.graph (scale_of f.by) f.first.now c.args.runs.now c.args.least.now c.args.self.now.sketch c.args.self.now.weight c.requires.runs c.requires.each c.loop-i.i c.loop-i.self.sketch c.loop-i.weight c.loop-i.ahead c.loop-i.invariant.laying c.loop-i-test.true no_run no_least c.between-ahead.result between in
     let limit =
-        c.walk_limit-most.ensures.value
-        ∙ ap₂ (λ (p q : GridPoint). limit_of (get_or c.args.least.now c.loop-i.i no_least) (c.loop-i.self.weight - 1 - c.loop-i.weight - (c.loop-i.ahead - c.between-ahead.result)) p q) c.point-from.ensures (c.point-to.ensures ∙ ap (λ (n : NodeId). point_of_node c.loop-i.self.sketch n.0) c.end_of-to.ensures)
-        ∙ ap₂ (λ w a. limit_of (get_or c.args.least.now c.loop-i.i no_least) (w - 1 - c.loop-i.weight - a) (point_of_node c.loop-i.self.sketch (get_or c.args.runs.now c.loop-i.i no_run).from.0) (point_of_node c.loop-i.self.sketch (end_of (get_or c.args.runs.now c.loop-i.i no_run)).0)) c.loop-i.invariant.kept left in
+    c.walk_limit-most.ensures.value
+    ∙ ap₂ (λ (p q : GridPoint). limit_of (get_or c.args.least.now c.loop-i.i no_least) (c.loop-i.self.weight - 1 - c.loop-i.weight - (c.loop-i.ahead - c.between-ahead.result)) p q) c.point-from.ensures (c.point-to.ensures ∙ ap (λ (n : NodeId). point_of_node c.loop-i.self.sketch n.0) c.end_of-to.ensures)
+    ∙ ap₂ (λ w a. limit_of (get_or c.args.least.now c.loop-i.i no_least) (w - 1 - c.loop-i.weight - a) (point_of_node c.loop-i.self.sketch (get_or c.args.runs.now c.loop-i.i no_run).from.0) (point_of_node c.loop-i.self.sketch (end_of (get_or c.args.runs.now c.loop-i.i no_run)).0)) c.loop-i.invariant.kept left in
     let mid = c.lay.new.self in
     let grown = mid_weight f.graph.now c.requires.field.graph (scale_of f.by) f.first.now c.args.runs.now c.args.least.now c.args.self.now.sketch c.args.self.now.weight c.requires.runs c.requires.each c.loop-i.i c.loop-i.self.sketch c.loop-i.weight c.loop-i.ahead c.loop-i.invariant.laying c.loop-i-test.true no_run no_least c.walk_limit-most.result mid c.in_ok-lay.ensures in
     laid_given_up f.graph.now c.requires.field.graph (scale_of f.by) f.first.now c.args.runs.now c.args.least.now c.args.self.now.sketch c.args.self.now.weight c.requires.runs c.requires.each (c.loop-i.i + 1) mid (mid_legal f.graph.now c.requires.field.graph (scale_of f.by) f.first.now c.args.runs.now c.args.least.now c.args.self.now.sketch c.args.self.now.weight c.requires.runs c.requires.each c.loop-i.i c.loop-i.self.sketch c.loop-i.weight c.loop-i.ahead c.loop-i.invariant.laying c.loop-i-test.true no_run no_least c.walk_limit-most.result mid c.in_ok-lay.ensures) (mid_so_far f.graph.now c.requires.field.graph (scale_of f.by) f.first.now c.args.runs.now c.args.least.now c.args.self.now.sketch c.args.self.now.weight c.requires.runs c.requires.each c.loop-i.i c.loop-i.self.sketch c.loop-i.weight c.loop-i.ahead c.loop-i.invariant.laying c.loop-i-test.true no_run no_least c.walk_limit-most.result mid c.in_ok-lay.ensures) c.take_all-2.new.self.sketch c.take_all-2.ensures.sketch
@@ -120,13 +120,13 @@ pub loop-i-preserved : goal.loop-i-preserved
 loop-i-preserved c =
     let f = c.args.field in
     let between =
-        c.between-ahead.ensures.value
-        ∙ ap₂ (λ (p q : GridPoint). reach_of p q + slice_index (get_or c.args.least.now c.loop-i.i no_least).by (straight_way p q)) c.point-from.ensures (c.point-to.ensures ∙ ap (λ (n : NodeId). point_of_node c.loop-i.self.sketch n.0) c.end_of-to.ensures) in
+    c.between-ahead.ensures.value
+    ∙ ap₂ (λ (p q : GridPoint). reach_of p q + slice_index (get_or c.args.least.now c.loop-i.i no_least).by (straight_way p q)) c.point-from.ensures (c.point-to.ensures ∙ ap (λ (n : NodeId). point_of_node c.loop-i.self.sketch n.0) c.end_of-to.ensures) in
     let left = left_ahead f.graph.now c.requires.field.graph (scale_of f.by) f.first.now c.args.runs.now c.args.least.now c.args.self.now.sketch c.args.self.now.weight c.requires.runs c.requires.each c.loop-i.i c.loop-i.self.sketch c.loop-i.weight c.loop-i.ahead c.loop-i.invariant.laying c.loop-i-test.true no_run no_least c.between-ahead.result between in
     let limit =
-        c.walk_limit-most.ensures.value
-        ∙ ap₂ (λ (p q : GridPoint). limit_of (get_or c.args.least.now c.loop-i.i no_least) (c.loop-i.self.weight - 1 - c.loop-i.weight - (c.loop-i.ahead - c.between-ahead.result)) p q) c.point-from.ensures (c.point-to.ensures ∙ ap (λ (n : NodeId). point_of_node c.loop-i.self.sketch n.0) c.end_of-to.ensures)
-        ∙ ap₂ (λ w a. limit_of (get_or c.args.least.now c.loop-i.i no_least) (w - 1 - c.loop-i.weight - a) (point_of_node c.loop-i.self.sketch (get_or c.args.runs.now c.loop-i.i no_run).from.0) (point_of_node c.loop-i.self.sketch (end_of (get_or c.args.runs.now c.loop-i.i no_run)).0)) c.loop-i.invariant.kept left in
+    c.walk_limit-most.ensures.value
+    ∙ ap₂ (λ (p q : GridPoint). limit_of (get_or c.args.least.now c.loop-i.i no_least) (c.loop-i.self.weight - 1 - c.loop-i.weight - (c.loop-i.ahead - c.between-ahead.result)) p q) c.point-from.ensures (c.point-to.ensures ∙ ap (λ (n : NodeId). point_of_node c.loop-i.self.sketch n.0) c.end_of-to.ensures)
+    ∙ ap₂ (λ w a. limit_of (get_or c.args.least.now c.loop-i.i no_least) (w - 1 - c.loop-i.weight - a) (point_of_node c.loop-i.self.sketch (get_or c.args.runs.now c.loop-i.i no_run).from.0) (point_of_node c.loop-i.self.sketch (end_of (get_or c.args.runs.now c.loop-i.i no_run)).0)) c.loop-i.invariant.kept left in
     let mid = c.lay.new.self in
     record {
       laying = lay_more f.graph.now c.requires.field.graph (scale_of f.by) f.first.now c.args.runs.now c.args.least.now c.args.self.now.sketch c.args.self.now.weight c.requires.runs c.requires.each c.loop-i.i c.loop-i.self.sketch c.loop-i.weight c.loop-i.ahead c.loop-i.invariant.laying c.loop-i-test.true no_run no_least c.walk_limit-most.result mid c.in_ok-lay.ensures (c.loop-i.weight + c.run_gain-weight.result) (c.loop-i.ahead - c.between-ahead.result) (ap (λ g. c.loop-i.weight + g) c.run_gain-weight.ensures.gain) left (omega (arith, c.if-weight-self.false, c.loop-i.invariant.kept));
