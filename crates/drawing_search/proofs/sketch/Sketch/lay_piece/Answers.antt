@@ -1,0 +1,22 @@
+use Rattle.std.proofs.Common.{◌≡◌, Bool, true, false, cond, sym, subst, arith}
+use Rattle.std.specs.List.{list_all}
+use Rattle.octi_grid.specs.declared.point.GridPoint.{GridPoint}
+use Rattle.octi_grid.specs.Walks.{points_of, PlainWalk}
+use Rattle.grid_board.specs.Boards.{contains}
+use Rattle.run_laying.specs.Pieces.{reversed_walk}
+use Rattle.run_laying.proofs.Reversed.{back_within}
+use Rattle.drawing_search.specs.Tracks.{piece_along}
+use Rattle.drawing_search.proofs.Steps.{piece_all}
+use Rattle.drawing_search.proofs.sketch.Sketch.lay_piece.Goals as goal
+
+either_way : (test : GridPoint → Bool) (w : PlainWalk) (b : Bool) → list_all test (points_of w) ≡ true → list_all test (points_of (cond b w (reversed_walk w))) ≡ true
+either_way test w true all = all
+either_way test w false all = back_within test w all
+
+pub put_walk-requires-clause-inside : goal.put_walk-requires-clause-inside
+put_walk-requires-clause-inside c =
+    let ps = c.args.track.now.points.items in
+    let ds = c.args.track.now.steps.items in
+    let test = contains c.args.self.now.bounds in
+    subst (λ (w : PlainWalk). list_all test (points_of w) ≡ true) (sym c.in_ok-piece.ensures)
+    (either_way test (piece_along ps ds c.args.start c.args.end) _ (piece_all ps ds c.requires.track test c.args.start c.args.end (omega (arith, c.requires.order)) c.requires.within c.requires.inside))
