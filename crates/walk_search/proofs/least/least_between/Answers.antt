@@ -1,4 +1,4 @@
-use Rattle.std.proofs.Common.{sym, ◌∙◌, ap, subst, ℕ, ◌+◌, ◌<◌, ◌^◌, Option, None, length, replicate}
+use Rattle.std.proofs.Common.{sym, ◌∙◌, ap, subst, ℕ, ◌+◌, ◌<◌, ◌^◌, Option, None, length, replicate, arith}
 use Rattle.std.specs.Prelude.{IfSome}
 use Rattle.std.proofs.lemmas.Bool.{true≢false}
 use Rattle.std.proofs.lemmas.Result.{IfOk-weaker}
@@ -30,6 +30,9 @@ note_costs-requires c =
     c.none-known.ensures
     ∙ ap (λ (n : ℕ). replicate (n + 1) None) (c.spots_of.ensures.value ∙ ap (λ (b : Bounds). spots_of b) c.bounds.ensures.value ∙ sym (ap (λ (x : Question). spots_of x.board.bounds) c.in_ok-asked.ensures))
 
+pub of-requires : goal.of-requires
+of-requires c = omega (arith, c.in_ok-note_costs.ensures.each, c.before-2.ensures.value)
+
 pub returns-then-not-is_within-clause-found : goal.returns-then-not-is_within-clause-found
 returns-then-not-is_within-clause-found c =
     let q = question c.in_ok-asked.asked in
@@ -37,7 +40,7 @@ returns-then-not-is_within-clause-found c =
     let never : IsKnownWithin (known_at c.note_costs.new.known (spots_of q.board.bounds)) c.args.limit → ⊥ =
     λ h. true≢false (sym (c.is_within.ensures.1 (subst (λ (o : Option ℕ). IsKnownWithin o c.args.limit) (sym known) h)) ∙ c.if-not-is_within.true) in
     subst (λ (x : Question). IsRouteUpTo c.args.limit x.from x.to (route x.board x.from x.to) None) c.in_ok-asked.ensures
-    (route_beyond q c.before-2.ensures.asked c.args.limit (c.in_ok-note_costs.ensures.beyond never))
+    (route_beyond q c.before-2.ensures.asked c.args.limit (c.in_ok-note_costs.ensures.searched.beyond never))
 
 pub returns-clause-found : goal.returns-clause-found
 returns-clause-found c =
