@@ -1,5 +1,6 @@
 -- Routes up to a limit.
-use Rattle.std.proofs.Common.{◌≡◌, refl, sym, ◌∙◌, ap, ap₂, ℕ, ◌+◌, ◌*◌, ◌<◌, inl, inr, Bool, true, false, cond, nat_le, List, ◌∷◌, map, Option, Some, None, ℤ, ◌-ℤ◌, unsigned_abs, arith}
+use Rattle.std.proofs.Common.{◌≡◌, refl, sym, ◌∙◌, ap, ap₂, ℕ, ◌+◌, ◌*◌, ◌^◌, ◌<◌, inl, inr, Bool, true, false, cond, nat_le, List, ◌∷◌, length, map, Option, Some, None, ℤ, ◌-ℤ◌, unsigned_abs, arith}
+use Rattle.std.specs.Prelude.{IfSome}
 use Rattle.std.proofs.lemmas.Int.{ints}
 use Rattle.std.proofs.lemmas.Bool.{and_parts, leb-true}
 use Rattle.octi_grid.specs.declared.point.GridPoint.{GridPoint}
@@ -13,7 +14,8 @@ use Rattle.walk_search.specs.Seats.{seat_cost}
 use Rattle.walk_search.specs.Routes.{if_within, is_free, route, total_of, IsRouteUpTo}
 use Rattle.walk_search.specs.Spots.{spots_of}
 use Rattle.walk_search.specs.Moves.{Question, IsQuestion, space_of}
-use Rattle.walk_search.proofs.Best.{route_free}
+use Rattle.walk_search.specs.Walked.{IsAnswer}
+use Rattle.walk_search.proofs.Best.{route_free, route_short}
 use Rattle.walk_search.proofs.FreeWalks.{path_of_walk, settled_at, HasPath}
 use Rattle.walk_search.proofs.Routing.{answer_is_route}
 
@@ -21,6 +23,11 @@ use Rattle.walk_search.proofs.Routing.{answer_is_route}
 pub route_upto : (limit : Option ℕ) (from to : End) (r walk : Option PlainWalk) → walk ≡ r → IsRouteUpTo limit from to r walk
 route_upto None from to r walk e = e
 route_upto (Some limit) from to r walk e = inl e
+
+-- and a walk of few steps
+pub answer_short : (q : Question) → IsQuestion q → (o : Option PlainWalk) → IsAnswer q o → IfSome o (λ (w : PlainWalk). length w.steps < 2 ^ 60)
+answer_short q h None answer = tt
+answer_short q h (Some w) answer = route_short q h w (sym (answer_is_route q h (Some w) answer))
 
 -- where no path is within a limit, no route is
 pub route_beyond : (q : Question) → IsQuestion q → (limit : Option ℕ) → ((labels : List ℕ) (k : ℕ) → PathTo (space_of q) (spots_of q.board.bounds) labels k → IsBeyond limit k)

@@ -1,6 +1,6 @@
 //! The least free walk between two ends.
 
-ghost use Rattle.std.specs.Prelude.{◌≡◌, ◌≢◌, ◌<◌, ◌^◌, ◌↔◌, IfOk, IsTrue, Some, true, false};
+ghost use Rattle.std.specs.Prelude.{◌≡◌, ◌≢◌, ◌<◌, ◌^◌, ◌↔◌, IfOk, IfSome, IsTrue, Some, length, true, false};
 ghost use Rattle.state_search.specs.Searching.{IsKnownWithin};
 ghost use Rattle.walk_search.specs.Routes.{if_within, route, IsRouteUpTo};
 ghost use Rattle.grid_board.specs.Boards.{parts_of};
@@ -100,6 +100,7 @@ pub fn least_walk_within(
 
 /// A walk, if it costs at most so much.
 fn within(found: Option<Walk>, most: u64) -> Option<Walk>
+    requires { IfSome found (λ walk. length walk.steps < 2 ^ 60) }
     ensures { result ≡ if_within most found }
 {
     match found {
@@ -128,7 +129,8 @@ fn least_between(
     requires apart { from.at ≢ to.at }
     requires from_mask { from.is_free ≡ true → is_all_or_none from.ports ≡ true }
     requires to_mask { to.is_free ≡ true → is_all_or_none to.ports ≡ true }
-    ensures { IfOk result (λ walk. IsRouteUpTo limit from to (route (parts_of board.now) from to) walk) }
+    ensures found { IfOk result (λ walk. IsRouteUpTo limit from to (route (parts_of board.now) from to) walk) }
+    ensures short { IfOk result (λ walk. IfSome walk (λ w. length w.steps < 2 ^ 60)) }
 {
     let states = spots_of(board.bounds()) as usize + 1;
     let mut known = Known::none(alloc, states);

@@ -28,7 +28,8 @@ pub(crate) fn note_costs(
     limit: Option<u64>,
 ) -> Result<(), NoMemory>
     requires { known.old ≡ replicate (spots_of (question asked.now).board.bounds + 1) None }
-    ensures { OnOk result (IsSearchedUpTo limit (space_of (question asked.now)) (spots_of (question asked.now).board.bounds) known.new) }
+    ensures searched { OnOk result (IsSearchedUpTo limit (space_of (question asked.now)) (spots_of (question asked.now).board.bounds) known.new) }
+    ensures each { OnOk result (length known.new ≡ spots_of (question asked.now).board.bounds + 1) }
 {
     let mut queue = Queue::new(alloc);
     search(alloc, asked, known, &mut queue, limit)
@@ -45,7 +46,8 @@ fn search(
     requires nothing_known { known.old ≡ replicate (spots_of (question asked.now).board.bounds + 1) None }
     requires nothing_waits { heap_items queue.old ≡ [] }
     requires order { IsHeap queue_cmp (heap_items queue.old) }
-    ensures { OnOk result (IsSearchedUpTo limit (space_of (question asked.now)) (spots_of (question asked.now).board.bounds) known.new) }
+    ensures searched { OnOk result (IsSearchedUpTo limit (space_of (question asked.now)) (spots_of (question asked.now).board.bounds) known.new) }
+    ensures each { OnOk result (length known.new ≡ spots_of (question asked.now).board.bounds + 1) }
 {
     let before = asked.before();
     offer_ends(asked, known, queue)?;

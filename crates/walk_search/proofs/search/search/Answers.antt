@@ -25,8 +25,8 @@ loop-estimate-init c =
     let begun = goals_offered (space_of q) (is_space q c.before-before.ensures.asked) c.offer_ends.new.known (heap_items c.offer_ends.new.queue) offers (goals_are_offered q c.before-before.ensures.asked) all in
     record { order = c.in_ok-offer_ends.ensures.order; each = c.in_ok-offer_ends.ensures.each; search = begun.0; goals = begun.1 }
 
-pub returns-then-branch : goal.returns-then-branch
-returns-then-branch c =
+pub returns-then-branch-clause-searched : goal.returns-then-branch-clause-searched
+returns-then-branch-clause-searched c =
     let q = question c.args.asked.now in
     let never = c.in_ok-is_in_vain.ensures c.if-branch.true in
     record {
@@ -94,8 +94,8 @@ loop-estimate-preserved c =
       goals = c.loop-estimate.invariant.goals;
     }
 
-pub returns : goal.returns
-returns c =
+pub returns-clause-searched : goal.returns-clause-searched
+returns-clause-searched c =
     let q = question c.args.asked.now in
     search_ends_at (space_of q) (is_space q c.before-before.ensures.asked) c.args.limit (spots_of q.board.bounds) c.loop-estimate.known (heap_items c.loop-estimate.queue) (nothing_ahead q)
     c.loop-estimate.invariant.search c.loop-estimate.invariant.goals
