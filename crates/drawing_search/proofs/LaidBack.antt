@@ -1,5 +1,5 @@
 -- Runs of an attempt that were laid so far, and what is left where they are taken away again.
-use Rattle.std.proofs.Common.{◌≡◌, refl, sym, ◌∙◌, ap, subst, ℕ, Bool, true, false, List, [], ◌∷◌, ◌++◌, length, fold, get_or, Some, None, ◌⊎◌, inl, inr, arith, length-set}
+use Rattle.std.proofs.Common.{◌≡◌, refl, sym, ◌∙◌, ap, subst, ℕ, Bool, true, false, List, [], ◌∷◌, ◌++◌, length, fold, get_or, Option, Some, None, ◌⊎◌, inl, inr, arith, length-set}
 use Rattle.std.proofs.lemmas.Bool.{cases_Bool, true≢false}
 use Rattle.map_base.specs.declared.ids.NodeId.{NodeId}
 use Rattle.map_base.specs.declared.ids.SegId.{SegId}
@@ -99,6 +99,25 @@ one_more_so_far graph fit cs c old k mid h run clear on s =
         let below = (inner_of graph fit c.from c.steps run.steps m own).node in
         subst (λ i. is_standing (with_pieces graph c.from c.steps on.pieces k) i ≡ true) (ap (λ (p : NodeId). p.0) (sym step.2))
         (to_stands graph c.from c.steps on.pieces k on.each step.0 step.1 (omega (arith, below, ap (λ (p : NodeId). p.0) step.2, h.stand_each)))
+
+-- the same of a drawing that is alike
+pub so_far_still : (cs : List Chain) (old k j : Sketch) → AreAlike j k → IsSoFar cs old k → IsSoFar cs old j
+so_far_still cs old k j a s = record {
+  same = record {
+    bounds = a.bounds ∙ s.same.bounds;
+    points_each = a.points_each ∙ s.same.points_each;
+    stand_each = ap length a.stand ∙ s.same.stand_each;
+    walks_each = ap length a.walks ∙ s.same.walks_each;
+    stand = λ n off. flag n ∙ s.same.stand n off;
+    walks = λ t off. ap (λ (ws : List (Option PlainWalk)). get_or ws t.0 None) a.walks ∙ s.same.walks t off;
+  };
+  stands = λ n e. flag n ∙ s.stands n e;
+  points = λ n e. a.points n (s.stands n e) ∙ s.points n e;
+  inner = λ c i m n. flag m.0 ∙ s.inner c i m n;
+}
+  where
+    flag : (n : ℕ) → is_standing j n ≡ is_standing k n
+    flag n = ap (λ (bs : List Bool). get_or bs n false) a.stand
 
 -- they may be taken away, and then nothing that stands has changed
 module _ (graph : GraphParts) (fit : IsConsistent graph) (cs : List Chain) (old k : Sketch) (h : IsLegalSketch graph k) (runs : (c : Chain) → In c cs → IsRun graph c) (beside : AreBeside cs) (clear : (c : Chain) → In c cs → IsClearFor old c) (s : IsSoFar cs old k) where

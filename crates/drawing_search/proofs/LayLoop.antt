@@ -1,9 +1,8 @@
 -- Runs of an attempt are laid one after another: what is known between two of them, and how it ends.
-use Rattle.std.proofs.Common.{◌≡◌, refl, sym, ◌∙◌, ap, ap₂, subst, ℕ, zero, suc, ◌+◌, ◌-◌, ◌<◌, ◌≤◌, true, false, cond, eqb, nat_lt, List, [], ◌∷◌, length, drop, fold, take, get_or, Some, None, inl, inr, arith}
+use Rattle.std.proofs.Common.{◌≡◌, refl, sym, ◌∙◌, ap, ap₂, subst, ℕ, zero, suc, ◌+◌, ◌-◌, ◌<◌, ◌≤◌, true, false, cond, eqb, min, nat_lt, List, [], ◌∷◌, length, ◌++◌, drop, fold, take, get_or, Some, None, inl, inr, arith}
 use Rattle.std.proofs.lemmas.Bool.{lt-ltb, true≢false}
 use Rattle.std.proofs.lemmas.List.{drop_all, drop_more, take_more}
 use Rattle.std.specs.List.{list_any}
-use Rattle.std.specs.Prelude.{slice_index, All}
 use Rattle.map_base.specs.declared.ids.NodeId.{NodeId}
 use Rattle.graph_core.specs.declared.parts.GraphParts.{GraphParts}
 use Rattle.graph_core.specs.Consistent.{IsConsistent}
@@ -13,30 +12,34 @@ use Rattle.line_chains.specs.Chains.{end_of}
 use Rattle.octi_grid.specs.declared.point.GridPoint.{GridPoint}
 use Rattle.octi_grid.proofs.Members.{any_at, any_from, false_from, In}
 use Rattle.segment_router.proofs.Places.{all_in, in_at}
-use Rattle.walk_search.specs.Reaching.{reach_of}
 use Rattle.drawing_weights.specs.Scales.{Scale}
 use Rattle.run_laying.specs.Attempts.{inner_nodes, is_on_runs}
 use Rattle.run_laying.specs.Laying.{all_laid, if_laid, laid, Sketch}
 use Rattle.run_laying.specs.Runs.{AreBeside, IsRun}
-use Rattle.run_laying.specs.Sketches.{is_standing, point_of_node, IsFreeFor, IsLegalSketch}
-use Rattle.run_laying.proofs.Attempted.{laid_on, IsClearFor, IsLaidOn}
+use Rattle.run_laying.specs.Sketches.{point_of_node, IsFreeFor, IsLegalSketch}
+use Rattle.run_laying.proofs.Attempted.{laid_on, IsClearFor}
 use Rattle.drawing_search.specs.declared.least.LeastTurns.{LeastTurns}
 use Rattle.drawing_search.specs.Alike.{AreAlike}
-use Rattle.drawing_search.specs.Bounds.{gains_at_least, HaveBounds}
+use Rattle.drawing_search.specs.Bounds.{gains_at_least, least_between, HaveBounds, IsBoundOf}
 use Rattle.drawing_search.specs.Changes.{without_run, AreLayable, AreTakable}
 use Rattle.drawing_search.specs.Gains.{run_gain, sketch_weight}
-use Rattle.drawing_search.specs.Least.{straight_way}
 use Rattle.drawing_search.specs.Tries.{if_below, AreAllLaid}
-use Rattle.drawing_search.specs.Trying.{laid_within}
 use Rattle.drawing_search.proofs.LaidBack.{none_so_far, one_more_so_far, so_far_alike, so_far_takable, IsSoFar}
-use Rattle.drawing_search.proofs.LayingAll.{laid_from_within, least_of, limit_fails, limit_of, next_gained, next_ready, same_least, too_heavy, IsReady}
+use Rattle.drawing_search.proofs.LayingAll.{least_of, next_gained, next_ready, no_room, same_least, IsReady}
 use Rattle.drawing_search.proofs.LaySteps.{clear_of}
 
--- what runs add at least, one after another
-pub gains_more : (f : NodeId → GridPoint) (cs : List Chain) (ls : List LeastTurns) (i : ℕ) (d : Chain) (e : LeastTurns) → i < length cs → length ls ≡ length cs
-    → gains_at_least f (drop i cs) (drop i ls)
-    ≡ reach_of (f (get_or cs i d).from) (f (end_of (get_or cs i d))) + slice_index (get_or ls i e).by (straight_way (f (get_or cs i d).from) (f (end_of (get_or cs i d)))) + gains_at_least f (drop (i + 1) cs) (drop (i + 1) ls)
-gains_more f cs ls i d e below each = ap₂ (gains_at_least f) (drop_more cs i d below) (drop_more ls i e (omega (arith, below, each)))
+-- what runs add at least, one after another, as far as that is no more than a number
+pub gains_step : (f : NodeId → GridPoint) (cs : List Chain) (ls : List LeastTurns) (i : ℕ) (c : Chain) (e : LeastTurns) (p q : GridPoint) (most total b new all : ℕ) → i < length cs → length ls ≡ length cs → c ≡ get_or cs i c
+    → p ≡ f c.from → q ≡ f (end_of c) → b ≡ least_between (get_or ls i e) p q → new ≡ min most (total + b) → min most (total + gains_at_least f (drop i cs) (drop i ls)) ≡ all
+    → min most (new + gains_at_least f (drop (i + 1) cs) (drop (i + 1) ls)) ≡ all
+gains_step f cs ls i c e p q most total b new all below each is from to adds sum before =
+    let next : gains_at_least f (drop i cs) (drop i ls) ≡ least_between (get_or ls i e) (f c.from) (f (end_of c)) + gains_at_least f (drop (i + 1) cs) (drop (i + 1) ls) =
+    ap₂ (gains_at_least f) (drop_more cs i c below ∙ ap (λ (x : Chain). x ∷ drop (i + 1) cs) (sym is)) (drop_more ls i e (omega (arith, below, each))) in
+    let same : b ≡ least_between (get_or ls i e) (f c.from) (f (end_of c)) = adds ∙ ap₂ (λ (x y : GridPoint). least_between (get_or ls i e) x y) from to in
+    capped most total b new (gains_at_least f (drop (i + 1) cs) (drop (i + 1) ls)) (gains_at_least f (drop i cs) (drop i ls)) all (next ∙ ap (λ n. n + gains_at_least f (drop (i + 1) cs) (drop (i + 1) ls)) (sym same)) sum before
+  where
+    capped : (m t x n r g a : ℕ) → g ≡ x + r → n ≡ min m (t + x) → min m (t + g) ≡ a → min m (n + r) ≡ a
+    capped m t x n r g a u v w = omega (arith, u, v, w)
 
 -- between two runs: those that are left may be laid on what there is, and those that were laid may be taken away
 pub record IsLayingAll (scale : Scale) (graph : GraphParts) (first : List GridPoint) (runs : List Chain) (least : List LeastTurns) (start : Sketch) (limit : ℕ) (i : ℕ) (k : Sketch) (weight ahead : ℕ) : Type 0 where
@@ -72,11 +75,6 @@ module _ (graph : GraphParts) (fit : IsConsistent graph) (scale : Scale) (first 
   in_front (x ∷ xs) (suc j) b (inl e) = inl e
   in_front (x ∷ xs) (suc j) b (inr m) = inr (in_front xs j b m)
 
-  at_front : (xs : List Chain) (j : ℕ) (d : Chain) → j < length xs → In (get_or xs j d) (take (suc j) xs)
-  at_front [] j d h = absurd (omega (arith, h))
-  at_front (x ∷ xs) zero d h = inl refl
-  at_front (x ∷ xs) (suc j) d h = inr (at_front xs j d (omega (arith, h)))
-
   front_beside : (j : ℕ) (xs : List Chain) → AreBeside xs → AreBeside (take j xs)
   front_beside zero xs beside = tt
   front_beside (suc j) [] beside = tt
@@ -106,24 +104,13 @@ module _ (graph : GraphParts) (fit : IsConsistent graph) (scale : Scale) (first 
         let lighter : nat_lt (sketch_weight scale graph first k) limit ≡ true = lt-ltb (sketch_weight scale graph first k) limit (omega (arith, a.less, a.weight_is)) in
         (ap (if_below (sketch_weight scale graph first) limit) there ∙ ap (λ b. cond b (Some k) None) lighter, a.weight_is)
 
-    module _ (below : i < length runs) (d : Chain) (e : LeastTurns) where
-      abbrev c : Chain
-      c = get_or runs i d
-
-      abbrev l : LeastTurns
-      l = get_or least i e
-
+    -- the next run
+    module _ (below : i < length runs) (c : Chain) (is_next : c ≡ get_or runs i c) where
       abbrev cs : List Chain
       cs = drop (i + 1) runs
 
       abbrev ls : List LeastTurns
       ls = drop (i + 1) least
-
-      ready : IsReady scale graph k (c ∷ cs) (l ∷ ls)
-      ready = subst (λ (xs : List Chain). IsReady scale graph k xs (l ∷ ls)) (drop_more runs i d below) (subst (λ (ys : List LeastTurns). IsReady scale graph k (drop i runs) ys) (drop_more least i e (omega (arith, below, each))) a.ready)
-
-      rest : all_laid graph (c ∷ cs) k ≡ all_laid graph runs start
-      rest = ap (λ (xs : List Chain). all_laid graph xs k) (sym (drop_more runs i d below)) ∙ a.rest
 
       abbrev from : GridPoint
       from = point_of_node k c.from.0
@@ -131,15 +118,17 @@ module _ (graph : GraphParts) (fit : IsConsistent graph) (scale : Scale) (first 
       abbrev to : GridPoint
       to = point_of_node k (end_of c).0
 
-      -- the bound of the next run is one of those that are ahead
-      pub next_ahead : ahead ≡ reach_of from to + slice_index l.by (straight_way from to) + least_of k cs ls
-      next_ahead = a.ahead_is ∙ gains_more (λ (n : NodeId). point_of_node k n.0) runs least i d e below each
+      runs_left : drop i runs ≡ c ∷ cs
+      runs_left = drop_more runs i c below ∙ ap (λ (x : Chain). x ∷ cs) (sym is_next)
+
+      is_left : In c (drop i runs)
+      is_left = subst (In c) (sym runs_left) (inl refl)
 
       pub run_next : IsRun graph c
-      run_next = run c (in_at runs i d below)
+      run_next = a.ready.runs c is_left
 
-      pub clear_next : IsClearFor k c
-      clear_next = ready.clear c (inl refl)
+      clear_next : IsClearFor k c
+      clear_next = a.ready.clear c is_left
 
       pub free_next : IsFreeFor k c
       free_next = record {
@@ -149,61 +138,51 @@ module _ (graph : GraphParts) (fit : IsConsistent graph) (scale : Scale) (first 
         walks = λ j x h. clear_next.walks (get_or c.steps j x) (in_at c.steps j x h);
       }
 
-      -- what is ahead then
-      pub left_ahead : (b : ℕ) → b ≡ reach_of from to + slice_index l.by (straight_way from to) → ahead - b ≡ least_of k cs ls
-      left_ahead b is = let next = next_ahead in omega (arith, next, is)
+      rest : all_laid graph (c ∷ cs) k ≡ all_laid graph runs start
+      rest = ap (λ (xs : List Chain). all_laid graph xs k) (sym runs_left) ∙ a.rest
 
-      pub ahead_enough : (b : ℕ) → b ≡ reach_of from to + slice_index l.by (straight_way from to) → b ≤ ahead
-      ahead_enough b is = let next = next_ahead in omega (arith, next, is)
+      -- and its bounds
+      module _ (e : LeastTurns) where
+        abbrev l : LeastTurns
+        l = get_or least i e
 
-      pub turns_enough : (b : ℕ) → b ≡ reach_of from to + slice_index l.by (straight_way from to) → slice_index l.by (straight_way from to) ≤ limit - 1 - weight - (ahead - b)
-      turns_enough b is = let next = next_ahead in omega (arith, next, is, a.less)
+        least_left : drop i least ≡ l ∷ ls
+        least_left = drop_more least i e (omega (arith, below, each))
 
-      room : sketch_weight scale graph first k + least_of k (c ∷ cs) (l ∷ ls) < limit
-      room = let next = next_ahead in omega (arith, a.less, a.weight_is, next)
+        ready : IsReady scale graph k (c ∷ cs) (l ∷ ls)
+        ready = subst (λ (xs : List Chain). IsReady scale graph k xs (l ∷ ls)) runs_left (subst (λ (ys : List LeastTurns). IsReady scale graph k (drop i runs) ys) least_left a.ready)
 
-      -- no walk within the limit lays it
-      pub lay_fails : (most : ℕ) → most ≡ limit_of l (limit - 1 - weight - least_of k cs ls) from to → laid_within graph most c k ≡ None → if_below (sketch_weight scale graph first) limit (all_laid graph runs start) ≡ None
-      lay_fails most is none =
-          ap (if_below (sketch_weight scale graph first) limit) (sym rest)
-          ∙ limit_fails graph fit scale first c cs l ls k ready limit room (ap (λ m. laid_within graph m c k) (sym (is ∙ ap (λ w. limit_of l (limit - 1 - w - least_of k cs ls) from to) a.weight_is)) ∙ none)
+        pub bound_next : IsBoundOf scale graph k c l
+        bound_next = ready.have.0
 
-      module _ (most : ℕ) (mid : Sketch) (found : laid_within graph most c k ≡ Some mid) where
-        there : laid graph c k ≡ Some mid
-        there = laid_from_within graph most c k mid found
+        -- what is ahead with it, and without it
+        next_ahead : ahead ≡ least_between l from to + least_of k cs ls
+        next_ahead = a.ahead_is ∙ ap₂ (least_of k) runs_left least_left
 
-        on : IsLaidOn graph c k mid
-        on = laid_on graph fit c k mid ready.legal run_next clear_next there
+        module _ (b : ℕ) (is : b ≡ least_between l from to) where
+          left_ahead : ahead - b ≡ least_of k cs ls
+          left_ahead = let next = next_ahead in omega (arith, next, is)
 
-        pub mid_legal : IsLegalSketch graph mid
-        mid_legal = on.legal
+          pub ahead_enough : b ≤ ahead
+          ahead_enough = let next = next_ahead in omega (arith, next, is)
 
-        pub mid_so_far : IsSoFar (take (i + 1) runs) start mid
-        mid_so_far = subst (λ (xs : List Chain). IsSoFar xs start mid) (sym (take_more runs i d below)) (one_more_so_far graph fit (take i runs) c start k mid ready.legal run_next clear_next on a.so_far)
+          pub room_next : weight + least_between l from to + (ahead - b) < limit
+          room_next = let next = next_ahead in omega (arith, next, is, a.less)
 
-        pub mid_weight : sketch_weight scale graph first mid ≡ weight + run_gain scale graph first mid c
-        mid_weight = let grown = (next_gained graph fit scale first c cs l ls k ready mid there).weight in omega (arith, grown, a.weight_is)
+          -- the run was not laid, and the drawing gets no lighter
+          pub lay_ends : ((mid : Sketch) → laid graph c k ≡ Some mid → limit ≤ weight + run_gain scale graph first mid c + (ahead - b)) → if_below (sketch_weight scale graph first) limit (all_laid graph runs start) ≡ None
+          lay_ends heavy =
+              ap (if_below (sketch_weight scale graph first) limit) (sym rest)
+              ∙ no_room graph fit scale first c cs l ls k ready limit (λ mid e. omega (arith, heavy mid e, left_ahead, a.weight_is))
 
-        pub mid_inner : All (λ (m : NodeId). is_standing mid m.0 ≡ true) (inner_nodes c.steps)
-        mid_inner = λ j x h.
-            let same : suc i ≡ i + 1 = omega arith in
-            mid_so_far.inner c (subst (λ n. In c (take n runs)) same (at_front runs i d below)) (get_or (inner_nodes c.steps) j x) (in_at (inner_nodes c.steps) j x h)
-
-        mid_rest : all_laid graph cs mid ≡ all_laid graph runs start
-        mid_rest = ap (if_laid (all_laid graph cs)) (sym there) ∙ rest
-
-        -- it gets too heavy, or goes on
-        pub lay_heavy : limit ≤ sketch_weight scale graph first mid + least_of k cs ls → if_below (sketch_weight scale graph first) limit (all_laid graph runs start) ≡ None
-        lay_heavy heavy =
-            ap (if_below (sketch_weight scale graph first) limit) (sym mid_rest)
-            ∙ too_heavy graph fit scale first limit cs ls mid (next_ready graph fit scale first c cs l ls k ready mid there) (let same = same_least graph fit scale first c cs l ls k ready mid there in omega (arith, heavy, same))
-
-        pub lay_more : (new next : ℕ) → new ≡ weight + run_gain scale graph first mid c → next ≡ least_of k cs ls → new + next < limit → IsLayingAll scale graph first runs least start limit (i + 1) mid new next
-        lay_more new next weighs left less = record {
-          rest = mid_rest;
-          ready = next_ready graph fit scale first c cs l ls k ready mid there;
-          weight_is = weighs ∙ sym mid_weight;
-          ahead_is = left ∙ sym (same_least graph fit scale first c cs l ls k ready mid there);
-          less = less;
-          so_far = mid_so_far;
-        }
+          -- or it was, and what is left goes on
+          pub lay_more : (mid : Sketch) (more : ℕ) → laid graph c k ≡ Some mid → more ≡ weight + run_gain scale graph first mid c → more + (ahead - b) < limit → IsLayingAll scale graph first runs least start limit (i + 1) mid more (ahead - b)
+          lay_more mid more there weighs less = record {
+            rest = ap (if_laid (all_laid graph cs)) (sym there) ∙ rest;
+            ready = next_ready graph fit scale first c cs l ls k ready mid there;
+            weight_is = let grown = (next_gained graph fit scale first c cs l ls k ready mid there).weight in omega (arith, grown, a.weight_is, weighs);
+            ahead_is = left_ahead ∙ sym (same_least graph fit scale first c cs l ls k ready mid there);
+            less = less;
+            so_far = subst (λ (xs : List Chain). IsSoFar xs start mid) (sym (take_more runs i c below ∙ ap (λ (x : Chain). take i runs ++ x ∷ []) (sym is_next)))
+                (one_more_so_far graph fit (take i runs) c start k mid ready.legal run_next clear_next (laid_on graph fit c k mid ready.legal run_next clear_next there) a.so_far);
+          }

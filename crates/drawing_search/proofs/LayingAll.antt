@@ -1,13 +1,11 @@
 -- Runs of an attempt are laid one after another, and given up as soon as the drawing can't get lighter by it.
-use Rattle.std.proofs.Common.{◌≡◌, refl, sym, ◌∙◌, ap, subst, ℕ, ◌+◌, ◌-◌, ◌/◌, ◌<◌, ◌≤◌, Bool, true, false, cond, eqb, nat_le, nat_lt, List, ◌∷◌, Option, Some, None, ◌⊎◌, inl, inr, arith}
-use Rattle.std.proofs.lemmas.Bool.{cases_lt, le-leb}
+use Rattle.std.proofs.Common.{◌≡◌, refl, sym, ◌∙◌, ap, subst, ℕ, ◌+◌, ◌≤◌, Bool, true, false, cond, nat_le, nat_lt, List, ◌∷◌, Option, Some, None, inl, inr, arith}
+use Rattle.std.proofs.lemmas.Bool.{le-leb}
 use Rattle.std.proofs.lemmas.Bool.Decides.{nat_tests}
-use Rattle.std.specs.Prelude.{slice_index}
 use Rattle.map_base.specs.declared.ids.NodeId.{NodeId}
 use Rattle.graph_core.specs.declared.parts.GraphParts.{GraphParts}
 use Rattle.graph_core.specs.Consistent.{IsConsistent}
 use Rattle.line_chains.specs.declared.chain.Chain.{Chain}
-use Rattle.line_chains.specs.Chains.{end_of}
 use Rattle.octi_grid.specs.declared.point.GridPoint.{GridPoint}
 use Rattle.octi_grid.specs.Walks.{cost_of, PlainWalk}
 use Rattle.octi_grid.proofs.Members.{In}
@@ -20,7 +18,6 @@ use Rattle.run_laying.proofs.Attempted.{beside_off, laid_on, still_clear, IsClea
 use Rattle.drawing_search.specs.declared.least.LeastTurns.{LeastTurns}
 use Rattle.drawing_search.specs.Bounds.{gains_at_least, HaveBounds}
 use Rattle.drawing_search.specs.Gains.{run_gain, sketch_weight}
-use Rattle.drawing_search.specs.Least.{straight_way}
 use Rattle.drawing_search.specs.Tries.{if_below}
 use Rattle.drawing_search.specs.Trying.{laid_within}
 use Rattle.drawing_search.proofs.LaidAll.{bounds_still, gained, gains_stay, more_walks, rest_no_less, IsGained}
@@ -37,14 +34,10 @@ pub record IsReady (scale : Scale) (graph : GraphParts) (k : Sketch) (cs : List 
 abbrev pub least_of : Sketch → List Chain → List LeastTurns → ℕ
 least_of k cs ls = gains_at_least (λ (n : NodeId). point_of_node k n.0) cs ls
 
-abbrev pub limit_of : LeastTurns → ℕ → GridPoint → GridPoint → ℕ
-limit_of l may a b =
-    cond (eqb l.per_turn 0) (may - slice_index l.by (straight_way a b) + l.free_turns) (may - slice_index l.by (straight_way a b) + slice_index l.by (straight_way a b) / l.per_turn)
-
 below_none : (weigh : Sketch → ℕ) (weight : ℕ) (fin : Sketch) → weight ≤ weigh fin → if_below weigh weight (Some fin) ≡ None
 below_none weigh weight fin h = let no : nat_lt (weigh fin) weight ≡ false = grind (arith, nat_tests, h) in ap (λ b. cond b (Some fin) None) no
 
-within_laid : (graph : GraphParts) (most : ℕ) (c : Chain) (k : Sketch) (w : PlainWalk) → run_walk graph (board_under k) c ≡ Some w → cost_of w ≤ most → laid_within graph most c k ≡ laid graph c k
+pub within_laid : (graph : GraphParts) (most : ℕ) (c : Chain) (k : Sketch) (w : PlainWalk) → run_walk graph (board_under k) c ≡ Some w → cost_of w ≤ most → laid_within graph most c k ≡ laid graph c k
 within_laid graph most c k w is few =
     ap (λ (o : Option PlainWalk). laid_along graph c k (if_within most o)) is
     ∙ ap (λ b. laid_along graph c k (cond b (Some w) None)) (le-leb (cost_of w) most few)
@@ -74,12 +67,6 @@ module _ (graph : GraphParts) (fit : IsConsistent graph) (scale : Scale) (first 
       by_laid (Some fin) is = below_none (sketch_weight scale graph first) weight fin (omega (arith, heavy, rest_no_less graph fit scale first cs ls k fin ready.legal ready.runs ready.beside ready.clear ready.have is))
 
   module _ (c : Chain) (cs : List Chain) (l : LeastTurns) (ls : List LeastTurns) (k : Sketch) (ready : IsReady scale graph k (c ∷ cs) (l ∷ ls)) where
-    abbrev from : GridPoint
-    from = point_of_node k c.from.0
-
-    abbrev to : GridPoint
-    to = point_of_node k (end_of c).0
-
     -- the next run is laid
     on : (mid : Sketch) → laid graph c k ≡ Some mid → IsLaidOn graph c k mid
     on mid e = laid_on graph fit c k mid ready.legal (ready.runs c (inl refl)) (ready.clear c (inl refl)) e
@@ -103,20 +90,10 @@ module _ (graph : GraphParts) (fit : IsConsistent graph) (scale : Scale) (first 
     pub next_gained : (mid : Sketch) (e : laid graph c k ≡ Some mid) → IsGained graph fit scale first c k mid l (on mid e).walk
     next_gained mid e = gained graph fit scale first c k mid l ready.legal (ready.runs c (inl refl)) (ready.clear c (inl refl)) ready.have.0 (on mid e)
 
-    -- where no walk within the limit lays it, the drawing gets no lighter
-    pub limit_fails : (weight : ℕ) → sketch_weight scale graph first k + least_of k (c ∷ cs) (l ∷ ls) < weight → laid_within graph (limit_of l (weight - 1 - sketch_weight scale graph first k - least_of k cs ls) from to) c k ≡ None
-        → if_below (sketch_weight scale graph first) weight (all_laid graph (c ∷ cs) k) ≡ None
-    limit_fails weight room none = by_laid (laid graph c k) refl
+    -- where it leaves no room below a weight, the drawing gets no lighter
+    pub no_room : (weight : ℕ) → ((mid : Sketch) → laid graph c k ≡ Some mid → weight ≤ sketch_weight scale graph first k + run_gain scale graph first mid c + least_of k cs ls) → if_below (sketch_weight scale graph first) weight (all_laid graph (c ∷ cs) k) ≡ None
+    no_room weight heavy = by_laid (laid graph c k) refl
       where
-        may : ℕ
-        may = weight - 1 - sketch_weight scale graph first k - least_of k cs ls
-
-        of_gain : (mid : Sketch) (e : laid graph c k ≡ Some mid) → (may < run_gain scale graph first mid c) ⊎ (run_gain scale graph first mid c ≤ may) → if_below (sketch_weight scale graph first) weight (all_laid graph cs mid) ≡ None
-        of_gain mid e (inl more) = too_heavy weight cs ls mid (next_ready mid e) (omega (arith, room, more, (next_gained mid e).weight, same_least mid e))
-        of_gain mid e (inr less) =
-            let there : None ≡ Some mid = sym none ∙ within_laid graph (limit_of l may from to) c k (on mid e).walk (on mid e).route ((next_gained mid e).within may less) ∙ e in
-            cc
-
         by_laid : (o : Option Sketch) → laid graph c k ≡ o → if_below (sketch_weight scale graph first) weight (if_laid (all_laid graph cs) o) ≡ None
         by_laid None is = refl
-        by_laid (Some mid) is = of_gain mid is (cases_lt may (run_gain scale graph first mid c))
+        by_laid (Some mid) is = too_heavy weight cs ls mid (next_ready mid is) (omega (arith, heavy mid is, (next_gained mid is).weight, same_least mid is))

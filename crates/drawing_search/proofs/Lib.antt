@@ -46,6 +46,7 @@ mod Spaced
 pub mod LaidAll
 mod LaidBack
 mod LayingAll
+mod RunLaid
 mod LayLoop
 -- attempts on whole drawings are those on their walks
 mod OnWalks

@@ -1,5 +1,5 @@
 -- Lower bounds of runs, as they are kept.
-use Rattle.std.specs.Prelude.{◌≡◌, ℕ, ◌+◌, ◌*◌, ◌≤◌, ◌^◌, ◌==◌, min, List, [], ◌∷◌, length, map, fold, if◌then◌else◌, Option, Some, None, slice_index, slice_index_or}
+use Rattle.std.specs.Prelude.{◌≡◌, ℕ, ◌+◌, ◌*◌, ◌-◌, ◌/◌, ◌≤◌, ◌^◌, ◌==◌, min, List, [], ◌∷◌, length, map, fold, if◌then◌else◌, Option, Some, None, slice_index, slice_index_or}
 use Rattle.std.specs.Int.{bit_at}
 use Rattle.std.specs.List.{range_with_len}
 use Rattle.map_base.specs.declared.ids.NodeId.{NodeId}
@@ -58,11 +58,21 @@ overs_by scale graph k n s d = if bit_at (ports_for graph k n s) (number_of d) =
 abbrev pub AreOvers : Scale → GraphParts → Sketch → ℕ → SegId → List (Option ℕ) → Type 0
 AreOvers scale graph k n s overs = overs ≡ map (overs_by scale graph k n s) directions
 
+-- what a run adds at least between two points
+abbrev pub least_between : LeastTurns → GridPoint → GridPoint → ℕ
+least_between l a b = reach_of a b + slice_index l.by (straight_way a b)
+
+-- what its walk may cost at most between them where it may add so much
+abbrev pub limit_between : LeastTurns → ℕ → GridPoint → GridPoint → ℕ
+limit_between l may_add a b =
+    if l.per_turn == 0 then may_add - slice_index l.by (straight_way a b) + l.free_turns
+    else may_add - slice_index l.by (straight_way a b) + slice_index l.by (straight_way a b) / l.per_turn
+
 -- what runs add at least together, where nodes stand at these points
 abbrev pub gains_at_least : (NodeId → GridPoint) → List Chain → List LeastTurns → ℕ
 gains_at_least at [] ls = 0
 gains_at_least at (c ∷ cs) [] = 0
-gains_at_least at (c ∷ cs) (l ∷ ls) = reach_of (at c.from) (at (end_of c)) + slice_index l.by (straight_way (at c.from) (at (end_of c))) + gains_at_least at cs ls
+gains_at_least at (c ∷ cs) (l ∷ ls) = least_between l (at c.from) (at (end_of c)) + gains_at_least at cs ls
 
 -- bounds of a run that were made beside no more walks than a sketch has: those beside its walks are no less
 pub record IsBoundOf (scale : Scale) (graph : GraphParts) (k : Sketch) (c : Chain) (l : LeastTurns) : Type 0 where

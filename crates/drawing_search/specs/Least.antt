@@ -81,14 +81,3 @@ least_by scale graph k c way d e =
 abbrev pub least_beside : Scale → GraphParts → Sketch → Chain → ℕ → ℕ
 least_beside scale graph k c way =
     fold min never (flat_map (λ d. map (least_by scale graph k c way d) (allowed_dirs graph k (end_of c).0 (last_seg_of c))) (allowed_dirs graph k c.from.0 (first_seg_of c.steps)))
-
--- what it adds at least between two points
-abbrev pub least_between : Scale → GraphParts → Sketch → Chain → GridPoint → GridPoint → ℕ
-least_between scale graph k c a b = reach_of a b + least_beside scale graph k c (straight_way a b)
-
--- what its walk may cost at most where it may add so much
-abbrev pub walk_limit : Scale → GraphParts → Sketch → Chain → ℕ → GridPoint → GridPoint → ℕ
-walk_limit scale graph k c may_add a b =
-    if turn_price scale graph c.steps == 0
-    then may_add - least_beside scale graph k c (straight_way a b) + 4 * free_nodes scale graph c.steps
-    else may_add - least_beside scale graph k c (straight_way a b) + least_beside scale graph k c (straight_way a b) / turn_price scale graph c.steps

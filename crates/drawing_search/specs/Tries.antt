@@ -1,5 +1,5 @@
 -- Attempts on a drawing in the making.
-use Rattle.std.specs.Prelude.{◌≡◌, ℕ, ◌+◌, ◌≤◌, ◌^◌, ◌&&◌, nat_le, nat_lt, not, Bool, List, length, map, fold, replicate, if◌then◌else◌, Option, Some, None}
+use Rattle.std.specs.Prelude.{◌≡◌, ℕ, ◌+◌, ◌<◌, ◌≤◌, ◌^◌, ◌&&◌, nat_le, nat_lt, not, Bool, List, length, map, fold, replicate, if◌then◌else◌, Option, Some, None}
 use Rattle.std.specs.List.{range_with_len}
 use Rattle.map_base.specs.declared.ids.NodeId.{NodeId}
 use Rattle.graph_core.specs.declared.parts.GraphParts.{GraphParts}
@@ -9,10 +9,10 @@ use Rattle.octi_grid.specs.Ways.{after}
 use Rattle.octi_grid.specs.Walks.{PlainWalk}
 use Rattle.drawing_weights.specs.Scales.{Scale}
 use Rattle.run_laying.specs.Attempts.{attempted_on, has_node, is_inner, is_on_runs, Attempt}
-use Rattle.run_laying.specs.Laying.{all_laid, Sketch}
+use Rattle.run_laying.specs.Laying.{all_laid, laid, Sketch}
 use Rattle.run_laying.specs.Sketches.{is_standing, point_of_node, walk_in, IsLegalSketch}
 use Rattle.drawing_search.specs.Alike.{AreAlike}
-use Rattle.drawing_search.specs.Gains.{sketch_weight}
+use Rattle.drawing_search.specs.Gains.{run_gain, sketch_weight}
 use Rattle.drawing_search.specs.Trying.{IsWhole}
 
 -- ---- what is taken off the board
@@ -83,6 +83,14 @@ abbrev pub AreAllLaid : Scale → GraphParts → List GridPoint → ℕ → List
 AreAllLaid scale graph first weight runs old new None = (if_below (sketch_weight scale graph first) weight (all_laid graph runs old) ≡ None) × AreAlike new old
 AreAllLaid scale graph first weight runs old new (Some less) =
     (if_below (sketch_weight scale graph first) weight (all_laid graph runs old) ≡ Some new) × (less ≡ sketch_weight scale graph first new)
+
+-- a run was laid, and it and the rest weigh so much, which leaves room below a limit for what is ahead; or nothing that stands
+-- has changed, and the run would leave no room
+abbrev pub IsRunLaid : Scale → GraphParts → List GridPoint → ℕ → ℕ → ℕ → Chain → Sketch → Sketch → Option ℕ → Type 0
+IsRunLaid scale graph first limit weight ahead c old new None =
+    AreAlike new old × ((mid : Sketch) → laid graph c old ≡ Some mid → limit ≤ weight + run_gain scale graph first mid c + ahead)
+IsRunLaid scale graph first limit weight ahead c old new (Some more) =
+    (laid graph c old ≡ Some new) × (more ≡ weight + run_gain scale graph first new c) × (more + ahead < limit)
 
 -- a search between two attempts: a whole legal drawing, and what it weighs, which is a number that can be added to
 pub record IsSettled (scale : Scale) (graph : GraphParts) (first : List GridPoint) (k : Sketch) (weight : ℕ) : Type 0 where

@@ -6,11 +6,10 @@ ghost use Rattle.octi_grid.specs.Ways.{number_of, reverse_of};
 ghost use Rattle.run_laying.specs.Runs.{IsRun};
 ghost use Rattle.run_laying.specs.Sketches.{is_standing, IsLegalSketch};
 ghost use Rattle.walk_search.specs.Moves.{direction};
-ghost use Rattle.walk_search.specs.Reaching.{reach_of};
 ghost use Rattle.walk_search.specs.Routes.{allows};
 ghost use Rattle.drawing_search.specs.Gains.{AreOnGraph, IsField};
 ghost use Rattle.drawing_search.specs.Least.{diagonal, free_nodes, is_free_node, ports_for, straight_way, turn_price, turns_at_least};
-ghost use Rattle.drawing_search.specs.Bounds.{overs_by, with_first_by, with_last_by, with_walk_by, AreOvers, IsLeastOf, IsSmallLeast, IsSmallOver};
+ghost use Rattle.drawing_search.specs.Bounds.{least_between, limit_between, overs_by, with_first_by, with_last_by, with_walk_by, AreOvers, IsLeastOf, IsSmallLeast, IsSmallOver};
 
 use crate::gains::Field;
 use crate::sketch::Sketch;
@@ -37,7 +36,7 @@ impl LeastTurns {
     /// What the run adds at least between two points.
     pub(crate) fn between(self, from: GridPoint, to: GridPoint) -> u64
         requires { IsSmallLeast self }
-        ensures value { result ≡ reach_of from to + slice_index self.by (straight_way from to) }
+        ensures value { result ≡ least_between self from to }
         ensures small { result ≤ 2 ^ 51 }
     {
         reach(from, to) + self.turns_between(from, to)
@@ -56,7 +55,7 @@ impl LeastTurns {
         requires small { IsSmallLeast self }
         requires enough { slice_index self.by (straight_way from to) ≤ may_add }
         requires may_add { may_add ≤ 2 ^ 57 }
-        ensures value { result ≡ (if self.per_turn == 0 then may_add - slice_index self.by (straight_way from to) + self.free_turns else may_add - slice_index self.by (straight_way from to) + slice_index self.by (straight_way from to) / self.per_turn) }
+        ensures value { result ≡ limit_between self may_add from to }
         ensures small { result < 2 ^ 63 }
     {
         let turns = self.turns_between(from, to);

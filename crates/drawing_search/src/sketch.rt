@@ -1,6 +1,6 @@
 //! Drawings in the making.
 
-ghost use Rattle.std.specs.Prelude.{◌≡◌, ◌<◌, fold, if◌then◌else◌, is_some, length, replicate, slice_index_or, IfOk, None, Some, false, true};
+ghost use Rattle.std.specs.Prelude.{◌≡◌, ◌<◌, fold, if◌then◌else◌, is_some, length, replicate, slice_index_or, slice_set, IfOk, None, Some, false, true};
 ghost use Rattle.std.specs.List.{list_all, list_any};
 ghost use Rattle.line_chains.specs.Chains.{round_of};
 ghost use Rattle.graph_core.specs.Consistent.{IsConsistent};
@@ -156,7 +156,7 @@ impl Sketch {
         ensures walk { result ≡ walk_in self.old s }
         ensures rest { self.new ≡ with_walk_of self.old s None }
     {
-        let walk = self.walks[s.0 as usize].take()?;
+        let walk = take_at(&mut self.walks, s)?;
         let (low, up) = graph.ends(s);
         let keeps_start = has_walk_at(&self.walks, graph, low);
         let keeps_end = has_walk_at(&self.walks, graph, up);
@@ -175,6 +175,15 @@ impl Sketch {
             Some(walk) => Some(port_of(walk, graph.ends(s).0 == n)),
         }
     }
+}
+
+/// Takes the walk of a segment out of these, if it has one.
+fn take_at(walks: &mut Vec<Option<Walk>>, s: SegId) -> Option<Walk>
+    requires { s.0 < length walks.old.items }
+    ensures walk { result ≡ slice_index_or walks.old.items s.0 None }
+    ensures rest { walks.new.items ≡ slice_set walks.old.items s.0 None }
+{
+    walks[s.0 as usize].take()
 }
 
 /// Whether a segment at a node has one of these walks.

@@ -12,15 +12,15 @@ ghost use Rattle.walk_search.specs.Moves.{direction};
 ghost use Rattle.grid_board.specs.Points.{is_near};
 ghost use Rattle.drawing_weights.specs.Scales.{apart_weight_by, scale_of};
 ghost use Rattle.run_laying.specs.Laying.{Sketch as Drawn};
-ghost use Rattle.run_laying.specs.Runs.{IsFitting};
-ghost use Rattle.run_laying.specs.Sketches.{lifted, point_of_node};
-ghost use Rattle.drawing_search.specs.Bounds.{gains_at_least, HaveBounds, IsSmallLeast};
+ghost use Rattle.run_laying.specs.Runs.{IsFitting, IsRun};
+ghost use Rattle.run_laying.specs.Sketches.{lifted, point_of_node, IsFreeFor, IsLegalSketch};
+ghost use Rattle.drawing_search.specs.Bounds.{gains_at_least, least_between, HaveBounds, IsBoundOf, IsSmallLeast};
 ghost use Rattle.drawing_search.specs.Changes.{all_moved, has_room, moved_by, point_after, stood_at, without_run, AreApart, AreLayable, AreLiftable, AreTakable, CanStandEach};
 ghost use Rattle.drawing_search.specs.Gains.{first_point, sketch_weight, IsField};
 ghost use Rattle.drawing_search.specs.Lifting.{IsAttempted, IsOff, IsTaken, IsTriedFrom};
 ghost use Rattle.drawing_search.specs.declared.group.Group.{Group as Groups};
 ghost use Rattle.drawing_search.specs.Searched.{attempts_in, attempts_of};
-ghost use Rattle.drawing_search.specs.Tries.{after_tries, AreAllLaid, IsSettled};
+ghost use Rattle.drawing_search.specs.Tries.{after_tries, AreAllLaid, IsRunLaid, IsSettled};
 
 use crate::gains::Field;
 use crate::group::{Group, Vector};
@@ -269,21 +269,63 @@ impl Search {
         let mut ahead = ahead;
         for i in 0..runs.len() {
             let run = &runs[i];
-            let from = self.sketch.point(run.from);
-            let to = self.sketch.point(end_of(run));
-            ahead -= least[i].between(from, to);
-            let most = least[i].walk_limit(self.weight - 1 - weight - ahead, from, to);
-            if !self.sketch.lay(alloc, field.graph, run, most)? {
+            ahead -= self.between_ends(run, least[i]);
+            let Some(more) = self.lay_run(alloc, field, run, least[i], weight, ahead)? else {
                 self.take_all(field, &runs[..i]);
                 return Ok(None);
-            }
-            weight += field.run_gain(&self.sketch, run);
-            if weight + ahead >= self.weight {
-                self.take_all(field, &runs[..i + 1]);
-                return Ok(None);
-            }
+            };
+            weight = more;
         }
         Ok(Some(weight))
+    }
+
+    /// What a run adds at least between its ends.
+    fn between_ends(&self, run: &Chain, least: LeastTurns) -> u64
+        requires from { run.now.from.0 < length self.now.sketch.points }
+        requires to { (end_of run.now).0 < length self.now.sketch.points }
+        requires small { IsSmallLeast least }
+        ensures { result ≡ least_between least (point_of_node self.now.sketch run.now.from.0) (point_of_node self.now.sketch (end_of run.now).0) }
+    {
+        let from = self.sketch.point(run.from);
+        let to = self.sketch.point(end_of(run));
+        least.between(from, to)
+    }
+
+    /// Lays a run where the rest weighs so much and other runs add at least so much: what the rest weighs with it, if the
+    /// drawing can get lighter so; else the run is not left on the board.
+    fn lay_run(
+        &mut self,
+        alloc: Global,
+        field: Field<'_>,
+        run: &Chain,
+        least: LeastTurns,
+        weight: u64,
+        ahead: u64,
+    ) -> Result<Option<u64>, NoMemory>
+        requires field { IsField field }
+        requires legal { IsLegalSketch field.graph.now self.old.sketch }
+        requires run { IsRun field.graph.now run.now }
+        requires free { IsFreeFor self.old.sketch run.now }
+        requires bound { IsBoundOf (scale_of field.by) field.graph.now self.old.sketch run.now least }
+        requires small { IsSmallLeast least }
+        requires room { weight + least_between least (point_of_node self.old.sketch run.now.from.0) (point_of_node self.old.sketch (end_of run.now).0) + ahead < self.old.weight }
+        requires limit { self.old.weight ≤ 2 ^ 57 }
+        ensures laid { IfOk result (IsRunLaid (scale_of field.entry.by) field.entry.graph.now field.entry.first.now self.old.weight weight ahead run.now self.old.sketch self.new.sketch) }
+        ensures weight { OnOk result (self.new.weight ≡ self.old.weight) }
+        ensures made { OnOk result (self.new.made ≡ self.old.made) }
+    {
+        let from = self.sketch.point(run.from);
+        let to = self.sketch.point(end_of(run));
+        let most = least.walk_limit(self.weight - 1 - weight - ahead, from, to);
+        if !self.sketch.lay(alloc, field.graph, run, most)? {
+            return Ok(None);
+        }
+        let more = weight + field.run_gain(&self.sketch, run);
+        if more + ahead >= self.weight {
+            self.sketch.take_run(field.graph, run);
+            return Ok(None);
+        }
+        Ok(Some(more))
     }
 
     /// Takes runs away that were laid.

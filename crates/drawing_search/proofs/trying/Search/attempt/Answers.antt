@@ -1,4 +1,4 @@
-use Rattle.std.proofs.Common.{◌≡◌, sym, ◌∙◌, ap, ap₂, subst, ◌+◌, ◌<◌, ◌≤◌, true, false, min, List, length, map, fold, arith, Some, None}
+use Rattle.std.proofs.Common.{◌≡◌, sym, ◌∙◌, ap, ap₂, subst, ℕ, Option, ◌+◌, ◌<◌, ◌≤◌, true, false, min, List, length, map, fold, arith, Some, None}
 use Rattle.std.specs.List.{sum_by}
 use Rattle.std.specs.Prelude.{All}
 use Rattle.map_base.specs.declared.ids.NodeId.{NodeId}
@@ -224,7 +224,8 @@ lift_moved-requires-clause-liftable c =
     let laid =
     subst (λ (j : Sketch). AreAllLaid (scale_of f.by) f.graph.now f.first.now s.weight c.args.group.now.runs j c.lay_all.new.self.sketch None) stood
     (subst (λ (cs : List Chain). AreAllLaid (scale_of f.by) f.graph.now f.first.now s.weight cs c.stand_moved.new.self.sketch c.lay_all.new.self.sketch None) c.as_slice-runs.ensures
-    (subst (λ w. AreAllLaid (scale_of f.by) f.graph.now f.first.now w c.as_slice-runs.result.now c.stand_moved.new.self.sketch c.lay_all.new.self.sketch None) c.stand_moved.ensures.weight c.in_ok-lay_all.ensures.laid)) in
+    (subst (λ w. AreAllLaid (scale_of f.by) f.graph.now f.first.now w c.as_slice-runs.result.now c.stand_moved.new.self.sketch c.lay_all.new.self.sketch None) c.stand_moved.ensures.weight
+    (subst (λ (o : Option ℕ). AreAllLaid (scale_of f.by) f.graph.now f.first.now c.stand_moved.new.self.weight c.as_slice-runs.result.now c.stand_moved.new.self.sketch c.lay_all.new.self.sketch o) c.in-None.is c.in_ok-lay_all.ensures.laid))) in
     subst (λ (ms : List (NodeId × GridPoint)). AreLiftable f.graph.now c.lay_all.new.self.sketch (map (λ (m : NodeId × GridPoint). m.0) ms)) (sym moved) (attempt_liftable f.graph.now c.requires.field.graph (scale_of f.by) f.first.now c.args.group.now c.args.lifted.now c.args.vector s.sketch s.weight c.requires.off room c.lay_all.new.self.sketch laid)
 
 pub returns-in-None-clause-attempted : goal.returns-in-None-clause-attempted
@@ -239,7 +240,8 @@ returns-in-None-clause-attempted c =
     let laid =
     subst (λ (j : Sketch). AreAllLaid (scale_of f.by) f.graph.now f.first.now s.weight c.args.group.now.runs j c.lay_all.new.self.sketch None) stood
     (subst (λ (cs : List Chain). AreAllLaid (scale_of f.by) f.graph.now f.first.now s.weight cs c.stand_moved.new.self.sketch c.lay_all.new.self.sketch None) c.as_slice-runs.ensures
-    (subst (λ w. AreAllLaid (scale_of f.by) f.graph.now f.first.now w c.as_slice-runs.result.now c.stand_moved.new.self.sketch c.lay_all.new.self.sketch None) c.stand_moved.ensures.weight c.in_ok-lay_all.ensures.laid)) in
+    (subst (λ w. AreAllLaid (scale_of f.by) f.graph.now f.first.now w c.as_slice-runs.result.now c.stand_moved.new.self.sketch c.lay_all.new.self.sketch None) c.stand_moved.ensures.weight
+    (subst (λ (o : Option ℕ). AreAllLaid (scale_of f.by) f.graph.now f.first.now c.stand_moved.new.self.weight c.as_slice-runs.result.now c.stand_moved.new.self.sketch c.lay_all.new.self.sketch o) c.in-None.is c.in_ok-lay_all.ensures.laid))) in
     attempt_failed f.graph.now c.requires.field.graph (scale_of f.by) f.first.now c.args.group.now c.args.lifted.now c.args.vector s.sketch s.weight c.requires.off room c.lay_all.new.self.sketch laid c.lift_moved.new.self.sketch
     (c.lift_moved.ensures.sketch ∙ ap (λ (ms : List (NodeId × GridPoint)). fold lifted c.lay_all.new.self.sketch (map (λ (m : NodeId × GridPoint). m.0) ms)) moved)
 
@@ -255,5 +257,6 @@ returns-in-Some-clause-attempted c =
     let laid =
     subst (λ (j : Sketch). AreAllLaid (scale_of f.by) f.graph.now f.first.now s.weight c.args.group.now.runs j c.lay_all.new.self.sketch (Some c.in-Some.weight)) stood
     (subst (λ (cs : List Chain). AreAllLaid (scale_of f.by) f.graph.now f.first.now s.weight cs c.stand_moved.new.self.sketch c.lay_all.new.self.sketch (Some c.in-Some.weight)) c.as_slice-runs.ensures
-    (subst (λ w. AreAllLaid (scale_of f.by) f.graph.now f.first.now w c.as_slice-runs.result.now c.stand_moved.new.self.sketch c.lay_all.new.self.sketch (Some c.in-Some.weight)) c.stand_moved.ensures.weight c.in_ok-lay_all.ensures.laid)) in
+    (subst (λ w. AreAllLaid (scale_of f.by) f.graph.now f.first.now w c.as_slice-runs.result.now c.stand_moved.new.self.sketch c.lay_all.new.self.sketch (Some c.in-Some.weight)) c.stand_moved.ensures.weight
+    (subst (λ (o : Option ℕ). AreAllLaid (scale_of f.by) f.graph.now f.first.now c.stand_moved.new.self.weight c.as_slice-runs.result.now c.stand_moved.new.self.sketch c.lay_all.new.self.sketch o) c.in-Some.is c.in_ok-lay_all.ensures.laid))) in
     attempt_made f.graph.now c.requires.field.graph (scale_of f.by) f.first.now c.args.group.now c.args.lifted.now c.args.vector s.sketch s.weight c.requires.off room c.lay_all.new.self.sketch c.in-Some.weight laid

@@ -1,9 +1,8 @@
-use Rattle.std.proofs.Common.{◌≡◌, ◌<◌, Some, None, arith}
+use Rattle.std.proofs.Common.{◌<◌, subst, ℕ, Option, arith}
 use Rattle.std.proofs.lemmas.Result.{IfOk-weaker}
 use Rattle.drawing_weights.specs.Scales.{scale_of}
-use Rattle.run_laying.specs.Laying.{Sketch}
 use Rattle.drawing_search.specs.declared.lifting.Lifted.{Lifted}
-use Rattle.drawing_search.specs.Lifting.{IsLifted, IsTaken, IsTriedFrom}
+use Rattle.drawing_search.specs.Lifting.{CameOf, IsLifted}
 use Rattle.drawing_search.proofs.TriedGroups.{tried_full, tried_none, tried_some}
 use Rattle.drawing_search.proofs.trying.Search.try_vector.Goals as goal
 
@@ -20,7 +19,8 @@ returns-in-None c =
     let room : s.made < c.args.most = omega (arith, c.requires.most, c.if-self-most.false) in
     λ whole taken.
     tried_none (scale_of f.by) f.graph.now f.first.now c.args.group.now c.args.most c.args.vector whole s.sketch s.weight s.made c.args.lifted taken room c.attempt.new.self.sketch
-    (c.in-None.ensures.attempted whole taken.settled c.requires.off.fitting taken.lifted)
+    (subst (λ (o : Option ℕ). CameOf (scale_of f.by) f.graph.now f.first.now c.args.group.now c.args.vector whole s.sketch c.attempt.new.self.sketch o) c.in-None.is
+    (c.in_ok-attempt.ensures.attempted whole taken.settled c.requires.off.fitting taken.lifted))
 
 pub returns-in-Some : goal.returns-in-Some
 returns-in-Some c =
@@ -32,5 +32,6 @@ returns-in-Some c =
     IfOk-weaker c.lift.result (λ (next : Lifted). IsLifted (scale_of f.by) f.graph.now f.first.now c.args.group.now new c.lift.new.sketch next) _
     (λ next lifted whole taken.
     tried_some (scale_of f.by) f.graph.now f.first.now c.args.group.now c.args.most c.args.vector whole s.sketch s.weight s.made c.args.lifted taken room new less
-    (c.in-Some.ensures.attempted whole taken.settled c.requires.off.fitting taken.lifted) c.lift.new.sketch next lifted)
+    (subst (λ (o : Option ℕ). CameOf (scale_of f.by) f.graph.now f.first.now c.args.group.now c.args.vector whole s.sketch new o) c.in-Some.is (c.in_ok-attempt.ensures.attempted whole taken.settled c.requires.off.fitting taken.lifted))
+    c.lift.new.sketch next lifted)
     c.lift.ensures
