@@ -1,10 +1,10 @@
 -- A search begins with a whole drawing on its board, and ends with one.
-use Rattle.std.proofs.Common.{◌≡◌, refl, sym, ◌∙◌, ap, ap₂, subst, ℕ, zero, suc, ◌+◌, ◌<◌, ◌≤◌, Bool, true, not, List, [], ◌∷◌, length, map, get_or, replicate, Option, Some, None, arith}
+use Rattle.std.proofs.Common.{◌≡◌, refl, sym, ◌∙◌, ap, ap₂, subst, ℕ, zero, suc, ◌+◌, ◌<◌, ◌≤◌, Bool, true, not, List, [], ◌∷◌, length, map, get_or, replicate, Option, Some, None, Result, Ok, Err, arith}
 use Rattle.std.proofs.lemmas.Bool.{and_from}
 use Rattle.std.proofs.lemmas.List.{get_or-map, get_or_default, length-map}
 use Rattle.std.proofs.lemmas.List.FromFn.{fill_by_all, length-map-range_with_len}
 use Rattle.std.specs.List.{filter_map, list_all, range_with_len}
-use Rattle.std.specs.Prelude.{All}
+use Rattle.std.specs.Prelude.{All, IfOk}
 use Rattle.graph_core.specs.declared.parts.GraphParts.{GraphParts}
 use Rattle.graph_core.specs.Consistent.{IsConsistent}
 use Rattle.octi_grid.specs.declared.dir.Dir.TheVariants as dir
@@ -18,18 +18,18 @@ use Rattle.segment_router.proofs.SettledLemmas.{nowhere}
 use Rattle.drawing_weights.specs.Drawn.{points_all, IsDrawn}
 use Rattle.drawing_weights.specs.Scales.{weight_by, Scale}
 use Rattle.drawing_weights.specs.Weights.{point_of}
-use Rattle.run_laying.specs.Attempts.{bounds_past, improving, is_inner, walk_beside, without_runs, Attempt}
+use Rattle.run_laying.specs.Attempts.{bounds_past, is_inner, walk_beside, without_runs, Attempt}
 use Rattle.run_laying.specs.Drawings.{IsOnBoard}
 use Rattle.run_laying.specs.Laying.{Sketch}
 use Rattle.run_laying.specs.Runs.{IsFitting}
 use Rattle.run_laying.specs.Sketches.{IsLegalSketch}
-use Rattle.run_laying.specs.Searches.{after_passes, searched, Found}
+use Rattle.run_laying.specs.Searches.{Found}
 use Rattle.run_laying.proofs.Kept.{kept_sketch}
 use Rattle.run_laying.proofs.Whole.{whole_legal}
 use Rattle.drawing_search.specs.declared.group.Group.{Group}
 use Rattle.drawing_search.specs.declared.searching.Searched.{Searched}
 use Rattle.drawing_search.specs.Gains.{sketch_weight}
-use Rattle.drawing_search.specs.Searched.{attempts_of, IsSearched}
+use Rattle.drawing_search.specs.Searched.{found_on, IsSearched, IsSearchedOn}
 use Rattle.drawing_search.specs.Shown.{whole_sketch}
 use Rattle.drawing_search.specs.Tries.{IsSettled}
 use Rattle.drawing_search.specs.Trying.{walks_of, IsWhole}
@@ -91,37 +91,56 @@ module _ (graph : GraphParts) (fit : IsConsistent graph) (bounds : Bounds) (ws :
   pub walks_kept : walks_of (whole_sketch bounds (points_all graph ws) ws) ≡ ws
   walks_kept = walks_back ws
 
+-- passes from a whole legal drawing
+module _ (graph : GraphParts) (fit : IsConsistent graph) (scale : Scale) (k : Sketch) (legal : IsLegalSketch graph k) (whole : IsWhole k) where
+  abbrev first : List PlainWalk
+  first = walks_of k
+
+  is_good : IsGood graph k.bounds k
+  is_good = record {
+    legal = legal;
+    complete = record { nodes = λ n below. whole.nodes n (omega (arith, below, legal.stand_each)); walks = λ i below. whole.walks i (omega (arith, below, legal.walks_each)) };
+    bounds_same = refl;
+  }
+
+  drawn : IsDrawn graph first
+  drawn = (whole_legal graph fit k legal is_good.complete).drawn
+
+  -- what a whole legal sketch on the board weighs
+  kept_weighs : (j : Sketch) → IsGood graph k.bounds j → sketch_weight scale graph (points_all graph first) j ≡ weight_by scale graph first (walks_of j)
+  kept_weighs j good =
+      ap (sketch_weight scale graph (points_all graph first)) (sketch_by_walks graph fit j good.legal good.complete)
+      ∙ same_weight graph fit j.bounds (walks_of j) (whole_legal graph fit j good.legal good.complete).drawn scale first
+
   -- all passes are left
-  pub search_begins : (scale : Scale) (groups : List Group) (at_once most before : ℕ) → before ≡ sketch_weight scale graph (points_all graph ws) (whole_sketch bounds (points_all graph ws) ws) → before ≤ 144115188075855872
-      → IsBetweenPasses scale graph ws bounds groups at_once most before (whole_sketch bounds (points_all graph ws) ws) before 0
-  search_begins scale groups at_once most before is small = record {
-    settled = record { legal = whole_good.legal; whole = whole_whole; weight_is = is; small = small };
-    good = whole_good;
+  pub passes_begin : (groups : List Group) (at_once most before : ℕ) → before ≡ sketch_weight scale graph (points_all graph first) k → before ≤ 144115188075855872 → IsBetweenPasses scale graph first k.bounds groups at_once most before k before 0
+  passes_begin groups at_once most before is small = record {
+    settled = record { legal = legal; whole = whole; weight_is = is; small = small };
+    good = is_good;
     passes = most;
-    enough = (omega arith, ap (λ (vs : List PlainWalk). after_passes (improving graph bounds (weight_by scale graph ws)) (attempts_of groups) at_once most most (record { walks = vs; made = 0 })) walks_kept);
+    enough = (omega arith, refl);
     few = omega arith;
     no_heavier = omega arith;
   }
 
-module _ (graph : GraphParts) (fit : IsConsistent graph) (scale : Scale) (margin : ℕ) (first : List PlainWalk) (attempts : List Attempt) (at_once most : ℕ) (drawn : IsDrawn graph first) where
-  -- what a whole legal sketch on the board weighs
-  kept_weighs : (k : Sketch) → IsGood graph (bounds_past margin first) k → sketch_weight scale graph (points_all graph first) k ≡ weight_by scale graph first (walks_of k)
-  kept_weighs k good =
-      ap (sketch_weight scale graph (points_all graph first)) (sketch_by_walks graph fit k good.legal good.complete)
-      ∙ same_weight graph fit k.bounds (walks_of k) (whole_legal graph fit k good.legal good.complete).drawn scale first
-
-  pub search_ends : (k : Sketch) (weight made before : ℕ) (s : Searched) → IsGood graph (bounds_past margin first) k → weight ≡ sketch_weight scale graph (points_all graph first) k → weight ≤ before
-      → before ≡ sketch_weight scale graph (points_all graph first) (whole_sketch (bounds_past margin first) (points_all graph first) first)
-      → (let f : Found = record { walks = walks_of k; made = made } in f) ≡ searched graph scale margin attempts at_once most first
-      → s.drawing.walks ≡ walks_of k → s.made ≡ made → s.before ≡ before → s.after ≡ weight → IsSearched graph scale margin attempts at_once most first s
-  search_ends k weight made before s good weighs lighter first_weighs found drawing_is made_is before_is after_is = record {
+  -- or none
+  search_ends : (attempts : List Attempt) (at_once most : ℕ) (j : Sketch) (weight made before : ℕ) (s : Searched) → IsGood graph k.bounds j → weight ≡ sketch_weight scale graph (points_all graph first) j → weight ≤ before
+      → before ≡ sketch_weight scale graph (points_all graph first) k → (let f : Found = record { walks = walks_of j; made = made } in f) ≡ found_on graph scale k.bounds attempts at_once most first
+      → s.drawing.walks ≡ walks_of j → s.made ≡ made → s.before ≡ before → s.after ≡ weight → IsSearchedOn graph scale k.bounds attempts at_once most first s
+  search_ends attempts at_once most j weight made before s good weighs lighter first_weighs found drawing_is made_is before_is after_is = record {
     drawing = drawing_is ∙ ap (λ (f : Found). f.walks) found;
     made = made_is ∙ ap (λ (f : Found). f.made) found;
-    before = before_is ∙ first_weighs ∙ same_weight graph fit (bounds_past margin first) first drawn scale first;
-    after = after_is ∙ weighs ∙ kept_weighs k good ∙ ap (weight_by scale graph first) (sym drawing_is);
-    on_board = subst (IsOnBoard graph (bounds_past margin first)) (sym drawing_is) (subst (λ (b : Bounds). IsOnBoard graph b (walks_of k)) good.bounds_same (whole_legal graph fit k good.legal good.complete));
+    before = before_is ∙ first_weighs ∙ kept_weighs k is_good;
+    after = after_is ∙ weighs ∙ kept_weighs j good ∙ ap (weight_by scale graph first) (sym drawing_is);
+    on_board = subst (IsOnBoard graph k.bounds) (sym drawing_is) (subst (λ (b : Bounds). IsOnBoard graph b (walks_of j)) good.bounds_same (whole_legal graph fit j good.legal good.complete));
     no_heavier = omega (arith, lighter, before_is, after_is);
   }
+
+  pub outcome_is : {E : Type 0} (attempts : List Attempt) (at_once most : ℕ) (j : Sketch) (weight made before : ℕ) (r : Result Searched E) → IsGood graph k.bounds j → weight ≡ sketch_weight scale graph (points_all graph first) j → weight ≤ before
+      → before ≡ sketch_weight scale graph (points_all graph first) k → (let f : Found = record { walks = walks_of j; made = made } in f) ≡ found_on graph scale k.bounds attempts at_once most first
+      → IfOk r (λ s. s.drawing.walks ≡ walks_of j) → IfOk r (λ s. s.made ≡ made) → IfOk r (λ s. s.before ≡ before) → IfOk r (λ s. s.after ≡ weight) → IfOk r (IsSearchedOn graph scale k.bounds attempts at_once most first)
+  outcome_is attempts at_once most j weight made before (Ok s) good weighs lighter first_weighs found drawing made_is before_is after = search_ends attempts at_once most j weight made before s good weighs lighter first_weighs found drawing made_is before_is after
+  outcome_is attempts at_once most j weight made before (Err e) good weighs lighter first_weighs found drawing made_is before_is after = tt
 
 -- what holds of all points of a list, by their places
 from_places : (test : GridPoint → Bool) (ps : List GridPoint) → ((n : ℕ) → n < length ps → test (get_or ps n nowhere) ≡ true) → list_all test ps ≡ true
@@ -186,11 +205,11 @@ module _ (graph : GraphParts) (fit : IsConsistent graph) (ws : List PlainWalk) (
       pub begun_whole : IsWhole k
       begun_whole = subst IsWhole (sym whole_of) (whole_whole graph fit (bounds_past margin ws) ws begins_on_board)
 
-      pub begun : (scale : Scale) (groups : List Group) (at_once most before : ℕ) → before ≡ sketch_weight scale graph first k → before ≤ 144115188075855872 → IsBetweenPasses scale graph ws bounds groups at_once most before k before 0
-      begun scale groups at_once most before weighs few =
-          subst (λ (b : Bounds). IsBetweenPasses scale graph ws b groups at_once most before k before 0) (sym bounds_is)
-          (subst (λ (j : Sketch). IsBetweenPasses scale graph ws (bounds_past margin ws) groups at_once most before j before 0) (sym whole_of)
-          (search_begins graph fit (bounds_past margin ws) ws begins_on_board scale groups at_once most before (weighs ∙ ap₂ (sketch_weight scale graph) first_is whole_of) few))
+      pub begun_walks : walks_of k ≡ ws
+      begun_walks = ap walks_of whole_of ∙ walks_kept graph fit (bounds_past margin ws) ws begins_on_board
 
-      pub first_weighs : (scale : Scale) (before : ℕ) → before ≡ sketch_weight scale graph first k → before ≡ sketch_weight scale graph (points_all graph ws) (whole_sketch (bounds_past margin ws) (points_all graph ws) ws)
-      first_weighs scale before weighs = weighs ∙ ap₂ (sketch_weight scale graph) first_is whole_of
+      -- and what comes of passes from it
+      pub begun_searched : {E : Type 0} (scale : Scale) (attempts : List Attempt) (at_once most : ℕ) (r : Result Searched E) → IfOk r (IsSearchedOn graph scale k.bounds attempts at_once most (walks_of k)) → IfOk r (IsSearched graph scale margin attempts at_once most ws)
+      begun_searched scale attempts at_once most r searched =
+          subst (λ (vs : List PlainWalk). IfOk r (IsSearchedOn graph scale (bounds_past margin ws) attempts at_once most vs)) begun_walks
+          (subst (λ (b : Bounds). IfOk r (IsSearchedOn graph scale b attempts at_once most (walks_of k))) (ap (λ (j : Sketch). j.bounds) whole_of) searched)

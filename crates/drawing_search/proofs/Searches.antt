@@ -90,12 +90,14 @@ module _ (scale : Scale) (graph : GraphParts) (fit : IsConsistent graph) (first 
       good_then = subst (λ (f : Tried). IsGood graph bounds f.sketch) (sym is) there.good
 
       -- or it goes on
+      pub rises : (more ≡ made → ⊥) → made < more
+      rises other = let up = after.more in let count = ap (λ (f : Tried). f.made) is in omega (arith, other, up, count)
+
       pub passes_more : (more ≡ made → ⊥) → IsBetweenPasses scale graph first bounds groups at_once most before new less more
       passes_more other =
-          let up = after.more in
           let count = ap (λ (f : Tried). f.made) is in
-          let rises : made < more = omega (arith, other, up, count) in
-          let next = pass_some (improving graph bounds (weight_by scale graph first)) (attempts_of groups) at_once most b.passes (found_of graph fit scale first bounds now) result room b.enough (let same = ap (λ (f : Found). f.made) found in omega (arith, rises, same)) in
+          let up = rises other in
+          let next = pass_some (improving graph bounds (weight_by scale graph first)) (attempts_of groups) at_once most b.passes (found_of graph fit scale first bounds now) result room b.enough (let same = ap (λ (f : Found). f.made) found in omega (arith, up, same)) in
           record {
             settled = settled;
             good = good_then;

@@ -5,9 +5,10 @@ use Rattle.graph_core.specs.declared.parts.GraphParts.{GraphParts}
 use Rattle.octi_grid.specs.declared.dir.Dir.TheVariants as dir
 use Rattle.octi_grid.specs.Walks.{PlainWalk}
 use Rattle.drawing_weights.specs.Scales.{weight_by, Scale}
-use Rattle.run_laying.specs.Attempts.{bounds_past, Attempt}
+use Rattle.grid_board.specs.declared.bounds.Bounds.{Bounds}
+use Rattle.run_laying.specs.Attempts.{bounds_past, improving, Attempt}
 use Rattle.run_laying.specs.Drawings.{IsOnBoard}
-use Rattle.run_laying.specs.Searches.{attempts_by, searched}
+use Rattle.run_laying.specs.Searches.{after_passes, attempts_by, Found}
 use Rattle.drawing_search.specs.declared.group.Group.{Group}
 use Rattle.drawing_search.specs.declared.searching.Searched.{Searched}
 
@@ -18,12 +19,20 @@ attempts_in g = if g.lengths == 0 then record { nodes = g.nodes; dir = dir.N; co
 abbrev pub attempts_of : List Group → List Attempt
 attempts_of groups = flat_map attempts_in groups
 
--- What comes of a search: the defined drawing, how many attempts were made, and what the drawing weighed before them and
--- weighs now. It is legal, lies on the board, and is no heavier than before.
-pub record IsSearched (graph : GraphParts) (scale : Scale) (margin : ℕ) (attempts : List Attempt) (at_once most : ℕ) (first : List PlainWalk) (s : Searched) : Type 0 where
-  pub drawing : s.drawing.walks ≡ (searched graph scale margin attempts at_once most first).walks
-  pub made : s.made ≡ (searched graph scale margin attempts at_once most first).made
+-- What comes of a search on a board: the defined drawing, how many attempts were made, and what the drawing weighed before
+-- them and weighs now. It is legal, lies on the board, and is no heavier than before.
+abbrev pub found_on : GraphParts → Scale → Bounds → List Attempt → ℕ → ℕ → List PlainWalk → Found
+found_on graph scale bounds attempts at_once most first =
+    after_passes (improving graph bounds (weight_by scale graph first)) attempts at_once most most (record { walks = first; made = 0 })
+
+pub record IsSearchedOn (graph : GraphParts) (scale : Scale) (bounds : Bounds) (attempts : List Attempt) (at_once most : ℕ) (first : List PlainWalk) (s : Searched) : Type 0 where
+  pub drawing : s.drawing.walks ≡ (found_on graph scale bounds attempts at_once most first).walks
+  pub made : s.made ≡ (found_on graph scale bounds attempts at_once most first).made
   pub before : s.before ≡ weight_by scale graph first first
   pub after : s.after ≡ weight_by scale graph first s.drawing.walks
-  pub on_board : IsOnBoard graph (bounds_past margin first) s.drawing.walks
+  pub on_board : IsOnBoard graph bounds s.drawing.walks
   pub no_heavier : s.after ≤ s.before
+
+-- the same on the board that reaches so many steps past the drawing: the walks are those that `searched` gives
+abbrev pub IsSearched : GraphParts → Scale → ℕ → List Attempt → ℕ → ℕ → List PlainWalk → Searched → Type 0
+IsSearched graph scale margin attempts at_once most first s = IsSearchedOn graph scale (bounds_past margin first) attempts at_once most first s

@@ -7,14 +7,14 @@ ghost use Rattle.octi_grid.specs.Legal.{is_even};
 ghost use Rattle.octi_grid.specs.Walks.{points_of as walk_points, PlainWalk};
 ghost use Rattle.grid_board.specs.Boards.{contains, AreBounds};
 ghost use Rattle.grid_board.specs.Points.{are_near};
-ghost use Rattle.drawing_weights.specs.Drawn.{IsDrawn};
+ghost use Rattle.drawing_weights.specs.Drawn.{points_all, IsDrawn};
 ghost use Rattle.drawing_weights.specs.Scales.{scale_of};
 ghost use Rattle.run_laying.specs.Runs.{IsFitting};
 ghost use Rattle.run_laying.specs.Sketches.{IsLegalSketch};
 ghost use Rattle.drawing_search.specs.declared.group.Group.{Group};
 ghost use Rattle.drawing_search.specs.Changes.{AreApart};
 ghost use Rattle.drawing_search.specs.Gains.{sketch_weight, IsField};
-ghost use Rattle.drawing_search.specs.Searched.{attempts_of, IsSearched};
+ghost use Rattle.drawing_search.specs.Searched.{attempts_of, IsSearched, IsSearchedOn};
 ghost use Rattle.drawing_search.specs.Shown.{whole_sketch};
 ghost use Rattle.drawing_search.specs.Trying.{walks_of, IsWhole};
 
@@ -77,6 +77,27 @@ pub fn search(
     };
     let bounds = bounds_past(alloc, margin, &walks)?;
     let sketch = sketch_of(alloc, graph, bounds, &first, walks)?;
+    passes(alloc, field, sketch, groups, at_once, most)
+}
+
+/// Passes over groups of attempts, from a whole drawing on.
+fn passes(
+    alloc: Global,
+    field: Field<'_>,
+    sketch: Sketch,
+    groups: &[Group],
+    at_once: u32,
+    most: u32,
+) -> Result<Searched, NoMemory>
+    requires field { IsField field }
+    requires first { field.first.now ≡ points_all field.graph.now (walks_of sketch) }
+    requires legal { IsLegalSketch field.graph.now sketch }
+    requires whole { IsWhole sketch }
+    requires fitting { All (IsFitting field.graph.now) (attempts_of groups.now) }
+    requires apart { All (λ (g : Group). AreApart g.nodes) groups.now }
+    requires lengths { All (λ (g : Group). g.lengths ≤ 4) groups.now }
+    ensures { IfOk result (IsSearchedOn field.entry.graph.now (scale_of field.entry.by) sketch.bounds (attempts_of groups.now) at_once most (walks_of sketch)) }
+{
     let before = weight_of(field, &sketch);
     let mut search = Search {
         sketch,
@@ -88,7 +109,7 @@ pub fn search(
         let limit = most.min(made.saturating_add(at_once));
         search.try_groups(alloc, field, groups, limit)?;
         if search.made == made {
-            break;
+            return outcome_of(alloc, search, before);
         }
     }
     outcome_of(alloc, search, before)

@@ -1,4 +1,4 @@
-use Rattle.std.proofs.Common.{◌∙◌, sym, ap, subst, ◌+◌, ◌<◌, List, length, drop, arith}
+use Rattle.std.proofs.Common.{◌∙◌, sym, ap, subst, ◌+◌, ◌<◌, List, length, drop, min, arith}
 use Rattle.std.proofs.lemmas.List.{drop_all}
 use Rattle.map_base.specs.declared.ids.NodeId.{NodeId}
 use Rattle.line_chains.specs.declared.chain.Chain.{Chain}
@@ -20,15 +20,22 @@ point_after-to-requires-clause-node c =
 pub between-total-requires : goal.between-total-requires
 between-total-requires c = c.requires.small c.loop-i.i _ (omega (arith, c.loop-i-test.true, c.requires.each))
 
+pub loop-i-init : goal.loop-i-init
+loop-i-init c = record { gains = omega arith; few = omega arith }
+
 pub loop-i-preserved : goal.loop-i-preserved
 loop-i-preserved c =
     let f = point_after c.args.self.now.sketch c.args.vector c.args.moved.now in
-    gains_step f c.args.runs.now c.args.least.now c.loop-i.i c.index-runs-i.result _ c.point_after-from.result c.point_after-to.result 18446744073709551615 c.loop-i.total c.between-total.result c.saturating_add-total.result _
-    c.loop-i-test.true c.requires.each c.index-runs-i.is c.point_after-from.ensures (c.point_after-to.ensures ∙ ap f c.end_of-to.ensures) c.between-total.ensures.value (omega (arith, c.saturating_add-total.ensures)) c.loop-i.invariant
+    record {
+      gains = gains_step f c.args.runs.now c.args.least.now c.loop-i.i c.index-runs-i.result _ c.point_after-from.result c.point_after-to.result 18446744073709551615 c.loop-i.total c.between-total.result c.saturating_add-total.result
+          (min 18446744073709551615 (gains_at_least f c.args.runs.now c.args.least.now)) c.loop-i-test.true c.requires.each c.index-runs-i.is c.point_after-from.ensures (c.point_after-to.ensures ∙ ap f c.end_of-to.ensures)
+          c.between-total.ensures.value (omega (arith, c.saturating_add-total.ensures)) c.loop-i.invariant.gains;
+      few = omega (arith, c.saturating_add-total.ensures);
+    }
 
 pub returns : goal.returns
 returns c =
     let f = point_after c.args.self.now.sketch c.args.vector c.args.moved.now in
     let none = drop_all c.loop-i.i c.args.runs.now c.loop-i-test.false in
     let rest = ap (λ (xs : List Chain). gains_at_least f xs (drop c.loop-i.i c.args.least.now)) none in
-    omega (arith, c.loop-i.invariant, rest, c.ranges.total)
+    omega (arith, c.loop-i.invariant.gains, c.loop-i.invariant.few, rest)
