@@ -23,6 +23,12 @@ use Rattle.drawing_search.proofs.TakenOff.{board_freed, has_walk_at, off_legal}
 pub kept_bounds_by : (b d : BoardFlags) → (parts_of d).bounds ≡ (parts_of b).bounds → d.bounds ≡ b.bounds
 kept_bounds_by b d e = sym (shown_bounds d) ∙ e ∙ shown_bounds b
 
+-- a sketch is another one where its parts are
+pub same_sketch : (b : BoardFlags) (points : List GridPoint) (stand : List Bool) (walks : List (Option PlainWalk)) (k : Sketch) → b.bounds ≡ k.bounds → points ≡ k.points → stand ≡ k.stand → walks ≡ k.walks → sketch_of b points stand walks ≡ k
+same_sketch b points stand walks k e f g h =
+    ap₂ (λ (z : Bounds) (ps : List GridPoint). (let x : Sketch = record { bounds = z; points = ps; stand = stand; walks = walks } in x)) e f
+    ∙ ap₂ (λ (fs : List Bool) (ws : List (Option PlainWalk)). (let x : Sketch = record { bounds = k.bounds; points = k.points; stand = fs; walks = ws } in x)) g h
+
 module _ (b : BoardFlags) (points : List GridPoint) (stand : List Bool) (walks : List (Option PlainWalk)) (k : Sketch) (shown : parts_of b ≡ board_of (sketch_of b points stand walks)) (view : sketch_of b points stand walks ≡ k) where
   abbrev j : Sketch
   j = sketch_of b points stand walks

@@ -6,7 +6,6 @@ ghost use Rattle.graph_core.specs.Consistent.{IsConsistent};
 ghost use Rattle.line_chains.specs.Chains.{end_of};
 ghost use Rattle.octi_grid.specs.Legal.{is_even};
 ghost use Rattle.grid_board.specs.Boards.{contains};
-ghost use Rattle.segment_router.specs.Underway.{with_known};
 ghost use Rattle.walk_search.specs.Routes.{if_within};
 ghost use Rattle.run_laying.specs.Attempts.{inner_nodes};
 ghost use Rattle.run_laying.specs.Laying.{board_under, from_low, run_walk, with_piece};
@@ -24,7 +23,7 @@ use graph_core::LineGraph;
 use line_chains::{Chain, ChainStep};
 use map_base::{NoMemory, NodeId, SegId};
 use octi_grid::{Dir, Walk};
-use segment_router::allowed_ports;
+use segment_router::{allowed_ports, push_port};
 use std::alloc::Global;
 use walk_search::least_walk_within;
 
@@ -200,14 +199,4 @@ impl Sketch {
             self.lift(graph, steps[i - 1].to);
         }
     }
-}
-
-/// Lists the port of a segment, if it has one.
-fn push_port(ports: &mut Vec<(SegId, Dir)>, s: SegId, port: Option<Dir>) -> Result<(), NoMemory>
-    ensures { OnOk result (ports.new.items ≡ ports.old.items ++ with_known s port []) }
-{
-    if let Some(port) = port {
-        ports.push((s, port))?;
-    }
-    Ok(())
 }

@@ -6,7 +6,6 @@ ghost use Rattle.octi_grid.specs.Ways.{number_of, reverse_of};
 ghost use Rattle.run_laying.specs.Runs.{IsRun};
 ghost use Rattle.run_laying.specs.Sketches.{is_standing, IsLegalSketch};
 ghost use Rattle.walk_search.specs.Moves.{direction};
-ghost use Rattle.walk_search.specs.Routes.{allows};
 ghost use Rattle.drawing_search.specs.Gains.{AreOnGraph, IsField};
 ghost use Rattle.drawing_search.specs.Least.{diagonal, free_nodes, is_free_node, ports_for, straight_way, turn_price, turns_at_least};
 ghost use Rattle.drawing_search.specs.Bounds.{least_between, limit_between, overs_by, with_first_by, with_last_by, with_walk_by, AreOvers, IsLeastOf, IsSmallLeast, IsSmallOver};
@@ -17,7 +16,7 @@ use line_chains::{Chain, ChainStep};
 use map_base::{NoMemory, NodeId, SegId};
 use octi_grid::{Dir, GridPoint, turn_cost};
 use std::alloc::Global;
-use walk_search::reach;
+use walk_search::{allows, reach};
 
 /// More than any drawing weighs: where a segment may have no port.
 const NEVER: u64 = 1 << 50;
@@ -243,13 +242,6 @@ pub(crate) fn direction(number: usize) -> Dir
         6 => Dir::W,
         _ => Dir::NW,
     }
-}
-
-/// Whether ports, as bits, hold one.
-fn allows(ports: u8, port: Dir) -> bool
-    ensures { result ≡ allows ports (Some port) }
-{
-    (ports >> port.index()) & 1 == 1
 }
 
 /// How many turns of 45 degrees a walk makes at least that leaves by one direction, comes in another, and ends where a

@@ -152,7 +152,7 @@ fn sketch_of(
     requires within { list_all (λ (w : PlainWalk). list_all (contains bounds) (walk_points w)) walks.items ≡ true }
     ensures { IfOk result (λ sketch. sketch ≡ whole_sketch bounds points.now walks.items) }
 {
-    let mut sketch = Sketch::empty(alloc, bounds, points, walks.len())?;
+    let mut sketch = Sketch::empty(alloc, bounds, points, graph.segs())?;
     for n in 0..graph.nodes() {
         sketch.stand(NodeId(n), points[n as usize]);
     }

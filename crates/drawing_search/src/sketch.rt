@@ -5,7 +5,7 @@ ghost use Rattle.std.specs.List.{list_all, list_any};
 ghost use Rattle.line_chains.specs.Chains.{round_of};
 ghost use Rattle.graph_core.specs.Consistent.{IsConsistent};
 ghost use Rattle.octi_grid.specs.Legal.{is_even};
-ghost use Rattle.octi_grid.specs.Walks.{end_port, points_of, start_port};
+ghost use Rattle.octi_grid.specs.Walks.{points_of};
 ghost use Rattle.grid_board.specs.Boards.{contains, AreBounds};
 ghost use Rattle.grid_board.specs.Points.{is_near};
 ghost use Rattle.segment_router.specs.Routes.{port_at_node};
@@ -19,6 +19,7 @@ use graph_core::LineGraph;
 use grid_board::{Board, Bounds};
 use map_base::{NoMemory, NodeId, SegId};
 use octi_grid::{Dir, GridPoint, Walk};
+use segment_router::{into_walks, no_walks, port_of};
 use std::alloc::Global;
 use std::marker::Model;
 
@@ -51,7 +52,7 @@ impl Sketch {
         alloc: Global,
         bounds: Bounds,
         points: &[GridPoint],
-        segments: usize,
+        segments: u32,
     ) -> Result<Sketch, NoMemory>
         requires { AreBounds bounds }
         ensures { IfOk result (λ sketch. sketch ≡ bare_sketch bounds points.now segments) }
@@ -59,11 +60,12 @@ impl Sketch {
         let board = Board::new(alloc, bounds.left, bounds.right, bounds.bottom, bounds.top)?;
         let stand = vec![in alloc; false; points.len()]?;
         let points = points.to_vec(alloc)?;
+        let walks = no_walks(alloc, segments)?;
         Ok(Sketch {
             board,
             points,
             stand,
-            walks: no_walks(alloc, segments)?,
+            walks,
         })
     }
 
@@ -71,13 +73,7 @@ impl Sketch {
     pub(crate) fn into_walks(self, alloc: Global) -> Result<Vec<Walk>, NoMemory>
         ensures { IfOk result (λ walks. walks.items ≡ walks_of self) }
     {
-        let mut kept = Vec::new(alloc);
-        for walk in self.walks {
-            if let Some(walk) = walk {
-                kept.push(walk)?;
-            }
-        }
-        Ok(kept)
+        into_walks(alloc, self.walks)
     }
 
     /// Where a node stands, or stood last.
@@ -199,26 +195,4 @@ fn has_walk_at(walks: &[Option<Walk>], graph: &LineGraph, n: NodeId) -> bool
         }
     }
     false
-}
-
-/// So many segments without walks.
-fn no_walks(alloc: Global, count: usize) -> Result<Vec<Option<Walk>>, NoMemory>
-    ensures { IfOk result (λ walks. walks.items ≡ replicate count None) }
-{
-    let mut walks = Vec::with_capacity(alloc, count)?;
-    for _ in 0..count {
-        walks.push(None)?;
-    }
-    Ok(walks)
-}
-
-/// The port of a walk at its start or at its end.
-fn port_of(walk: &Walk, at_start: bool) -> Dir
-    ensures { (if at_start then start_port walk.now else end_port walk.now) ≡ Some result }
-{
-    if at_start {
-        walk.start_port()
-    } else {
-        walk.end_port()
-    }
 }

@@ -17,6 +17,7 @@ mod seats;
 mod spots;
 mod walk;
 
+pub use directions::allows;
 pub use ends::End;
 pub use grid_board::{Board, Bounds};
 pub use laws::{

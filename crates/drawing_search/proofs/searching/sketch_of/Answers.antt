@@ -10,12 +10,17 @@ use Rattle.segment_router.proofs.Places.{all_place}
 use Rattle.segment_router.proofs.SettledLemmas.{nowhere}
 use Rattle.run_laying.specs.Laying.{Sketch}
 use Rattle.run_laying.specs.Sketches.{is_standing, stood, walk_in, with_walk_of}
-use Rattle.drawing_search.proofs.Built.{node_built, node_flag, node_low, walk_below, walk_built, walk_free, walks_all, walks_none, with_walks}
+use Rattle.drawing_search.specs.Shown.{bare_sketch}
+use Rattle.drawing_search.proofs.Built.{node_built, node_flag, node_low, nodes_none, walk_below, walk_built, walk_free, walks_all, walks_none, with_walks}
 use Rattle.drawing_search.proofs.searching.sketch_of.Goals as goal
 
 same : (ws : List PlainWalk) → map (λ w. w) ws ≡ ws
 same [] = refl
 same (w ∷ ws) = ap (λ (v : List PlainWalk). w ∷ v) (same ws)
+
+pub loop-n-init : goal.loop-n-init
+loop-n-init c =
+    c.in_ok-sketch.ensures ∙ ap (bare_sketch c.args.bounds c.args.points.now) (c.segs.ensures ∙ sym c.requires.walks) ∙ nodes_none c.args.bounds c.args.points.now (length c.args.walks.items)
 
 pub stand-requires-clause-node : goal.stand-requires-clause-node
 stand-requires-clause-node c = omega (arith, ap (λ (k : Sketch). length k.points) c.loop-n.invariant, c.loop-n-test.true, c.nodes-n-end.ensures.count, c.requires.points)
