@@ -14,8 +14,10 @@ use Rattle.octi_grid.specs.declared.point.GridPoint.{GridPoint}
 use Rattle.octi_grid.specs.Walks.{PlainWalk}
 use Rattle.segment_router.proofs.SettledLemmas.{nowhere}
 use Rattle.drawing_weights.specs.Scales.{Scale}
+use Rattle.grid_board.specs.Points.{is_near}
 use Rattle.run_laying.specs.Laying.{Sketch}
 use Rattle.run_laying.specs.Sketches.{is_standing, lifted, point_of_node, IsLegalSketch}
+use Rattle.run_laying.proofs.Shown.{stands_below}
 use Rattle.drawing_search.specs.declared.group.Group.{Group}
 use Rattle.drawing_search.specs.declared.least.LeastTurns.{LeastTurns}
 use Rattle.drawing_search.specs.declared.lifting.Lifted.{Lifted}
@@ -26,8 +28,9 @@ use Rattle.drawing_search.specs.Gains.{apart_in, run_gain, sketch_weight}
 use Rattle.drawing_search.specs.Lifting.{points_along, put_back, walks_along, CanPutBack, IsLifted}
 use Rattle.drawing_search.specs.Tries.{taken_off}
 use Rattle.drawing_search.specs.Trying.{IsWhole}
-use Rattle.drawing_search.proofs.Lifts.{all_liftable, can_put_back, lifted_at, node_weighs, off_alike, put_back_is, run_weighs_then, same_points_along, same_walks_along, taken, IsGroup}
-use Rattle.drawing_search.proofs.TakenBack.{lift_points, runs_points}
+use Rattle.drawing_search.proofs.Lifts.{all_liftable, can_put_back, legal_then, lifted_at, node_weighs, off_alike, put_back_is, run_weighs_then, same_points_along, same_walks_along, taken, IsGroup}
+use Rattle.drawing_search.proofs.Nearby.{stands_near}
+use Rattle.drawing_search.proofs.TakenBack.{lift_legal, lift_points, runs_points}
 
 -- one run more has its bounds
 have_push : (scale : Scale) (graph : GraphParts) (k : Sketch) (cs : List Chain) (ls : List LeastTurns) (c : Chain) (l : LeastTurns) → length ls ≡ length cs → HaveLeast scale graph k cs ls → IsLeastOf scale graph k c l → HaveLeast scale graph k (cs ++ c ∷ []) (ls ++ l ∷ [])
@@ -147,6 +150,12 @@ module _ (graph : GraphParts) (fit : IsConsistent graph) (old : Sketch) (h : IsL
     pub node_stands : is_standing k (get_or nodes i d).0 ≡ true
     node_stands = ap (λ (j : Sketch). is_standing j n.0) a.sketch ∙ at.1
 
+    pub node_below : (get_or nodes i d).0 < length graph.kinds
+    node_below = stands_below graph k node_legal n.0 node_stands
+
+    pub node_near : is_near 2000 (point_of_node k (get_or nodes i d).0) ≡ true
+    node_near = stands_near graph k node_legal n.0 node_stands
+
     same_point : point_of_node k n.0 ≡ point_of_node old n.0
     same_point = ap (λ (j : Sketch). point_of_node j n.0) a.sketch ∙ ap (λ (ps : List GridPoint). get_or ps n.0 nowhere) (lift_points k1 (take i nodes) ∙ runs_points runs old)
 
@@ -201,6 +210,9 @@ module _ (graph : GraphParts) (fit : IsConsistent graph) (old : Sketch) (h : IsL
         (subst (HaveLeast scale graph k (take i runs ++ get_or runs i d ∷ [])) (sym least) (have_push scale graph k (take i runs) l.least.items (get_or runs i d) x a.each a.least is));
     small = subst (All IsSmallLeast) (sym least) (All-push IsSmallLeast l.least.items x a.small small);
   }
+
+  pub least_legal : (i : ℕ) (k : Sketch) (l : Lifted) → AreLeastLifted scale graph first old nodes runs i k l → IsLegalSketch graph k
+  least_legal i k l a = subst (IsLegalSketch graph) (sym a.sketch) (lift_legal graph k1 nodes (legal_then graph fit old h whole nodes runs g) (all_liftable graph fit old h whole nodes runs g))
 
   -- so the group is off
   pub group_lifted : (b : Group) (i : ℕ) (k : Sketch) (l : Lifted) → b.nodes ≡ nodes → b.runs ≡ runs → length runs ≤ i → AreLeastLifted scale graph first old nodes runs i k l → IsLifted scale graph first b old k l

@@ -45,6 +45,8 @@ pub(crate) fn lift(
     requires apart { AreApart group.now.nodes }
     ensures { IfOk result (IsLifted (scale_of field.entry.by) field.entry.graph.now field.entry.first.now group.now sketch.old sketch.new) }
 {
+    let runs = group.runs.as_slice();
+    let nodes = group.nodes.as_slice();
     let mut lifted = Lifted {
         walks: Vec::new(alloc),
         inner: Vec::new(alloc),
@@ -52,18 +54,21 @@ pub(crate) fn lift(
         rest: weight,
         least: Vec::new(alloc),
     };
-    for run in group.runs.as_slice() {
-        lifted.rest -= field.run_gain(sketch, run);
+    for run in runs {
+        let gain = field.run_gain(sketch, run);
+        lifted.rest -= gain;
         lift_run(field, sketch, run, &mut lifted)?;
     }
-    for n in group.nodes.as_slice() {
+    for n in nodes {
         let at = sketch.point(*n);
-        lifted.rest -= field.apart_weight(*n, at);
+        let apart = field.apart_weight(*n, at);
+        lifted.rest -= apart;
         sketch.lift(field.graph, *n);
         lifted.moved.push((*n, at))?;
     }
-    for run in group.runs.as_slice() {
-        lifted.least.push(field.least_turns(alloc, sketch, run)?)?;
+    for chain in runs {
+        let least = field.least_turns(alloc, sketch, chain)?;
+        lifted.least.push(least)?;
     }
     Ok(lifted)
 }

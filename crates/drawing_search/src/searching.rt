@@ -106,7 +106,8 @@ fn passes(
     };
     while search.made < most {
         let made = search.made;
-        let limit = most.min(made.saturating_add(at_once));
+        let raised = made.saturating_add(at_once);
+        let limit = most.min(raised);
         search.try_groups(alloc, field, groups, limit)?;
         if search.made == made {
             return outcome_of(alloc, search, before);

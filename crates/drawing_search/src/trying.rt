@@ -144,9 +144,11 @@ impl Search {
         if !self.has_room(moved, vector) {
             return Ok(None);
         }
-        let base = lifted.rest + aparts_after(field, moved, vector);
+        let aparts = aparts_after(field, moved, vector);
+        let base = lifted.rest + aparts;
         let ahead = self.least_gains(runs, &lifted.least, moved, vector);
-        if base.saturating_add(ahead) >= self.weight {
+        let whole = base.saturating_add(ahead);
+        if whole >= self.weight {
             return Ok(None);
         }
         self.stand_moved(moved, vector);
@@ -194,8 +196,10 @@ impl Search {
         for i in 0..runs.len() {
             let run = &runs[i];
             let from = self.point_after(run.from, moved, vector);
-            let to = self.point_after(end_of(run), moved, vector);
-            total = total.saturating_add(least[i].between(from, to));
+            let end = end_of(run);
+            let to = self.point_after(end, moved, vector);
+            let more = least[i].between(from, to);
+            total = total.saturating_add(more);
         }
         total
     }
@@ -287,7 +291,8 @@ impl Search {
         ensures { result ≡ least_between least (point_of_node self.now.sketch run.now.from.0) (point_of_node self.now.sketch (end_of run.now).0) }
     {
         let from = self.sketch.point(run.from);
-        let to = self.sketch.point(end_of(run));
+        let end = end_of(run);
+        let to = self.sketch.point(end);
         least.between(from, to)
     }
 
@@ -315,13 +320,16 @@ impl Search {
         ensures made { OnOk result (self.new.made ≡ self.old.made) }
     {
         let from = self.sketch.point(run.from);
-        let to = self.sketch.point(end_of(run));
+        let end = end_of(run);
+        let to = self.sketch.point(end);
         let most = least.walk_limit(self.weight - 1 - weight - ahead, from, to);
         if !self.sketch.lay(alloc, field.graph, run, most)? {
             return Ok(None);
         }
-        let more = weight + field.run_gain(&self.sketch, run);
-        if more + ahead >= self.weight {
+        let gain = field.run_gain(&self.sketch, run);
+        let more = weight + gain;
+        let whole = more + ahead;
+        if whole >= self.weight {
             self.sketch.take_run(field.graph, run);
             return Ok(None);
         }

@@ -11,5 +11,5 @@ abbrev pub invariant-loop-n : goal.invariant-loop-n
 invariant-loop-n l = AreNodesLifted (scale_of l.field.by) l.field.graph.now l.field.first.now l.initial.sketch l.group.nodes l.group.runs l.n-index l.sketch l.lifted
 
 -- and so many runs have their bounds
-abbrev pub invariant-loop-run-2 : goal.invariant-loop-run-2
-invariant-loop-run-2 l = AreLeastLifted (scale_of l.field.by) l.field.graph.now l.field.first.now l.initial.sketch l.group.nodes l.group.runs l.run-index l.sketch l.lifted
+abbrev pub invariant-loop-chain : goal.invariant-loop-chain
+invariant-loop-chain l = AreLeastLifted (scale_of l.field.by) l.field.graph.now l.field.first.now l.initial.sketch l.group.nodes l.group.runs l.chain-index l.sketch l.lifted

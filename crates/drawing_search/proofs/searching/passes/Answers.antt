@@ -25,7 +25,7 @@ try_groups-requires-clause-settled c =
     subst (λ (ps : List GridPoint). IsSettled (scale_of f.by) f.graph.now ps c.loop-search.search.sketch c.loop-search.search.weight) (sym c.requires.first) c.loop-search.invariant.settled
 
 pub try_groups-requires-clause-most : goal.try_groups-requires-clause-most
-try_groups-requires-clause-most c = omega (arith, c.min-limit.ensures, c.saturating_add-limit.ensures, c.loop-search-test.true)
+try_groups-requires-clause-most c = omega (arith, c.min-limit.ensures, c.saturating_add-raised.ensures, c.loop-search-test.true)
 
 -- a pass made nothing
 pub returns-then-search-made : goal.returns-then-search-made
@@ -35,7 +35,7 @@ returns-then-search-made c =
     let old = c.loop-search.search in
     let new = c.try_groups.new.self in
     let settled = subst (λ (ps : List GridPoint). IsSettled (scale_of f.by) f.graph.now ps new.sketch new.weight) c.requires.first c.in_ok-try_groups.ensures.settled in
-    let limit : c.min-limit.result ≡ min c.args.most (old.made + c.args.at_once) = omega (arith, c.min-limit.ensures, c.saturating_add-limit.ensures, c.ranges.most) in
+    let limit : c.min-limit.result ≡ min c.args.most (old.made + c.args.at_once) = omega (arith, c.min-limit.ensures, c.saturating_add-raised.ensures, c.ranges.most) in
     let is =
     c.in_ok-try_groups.ensures.tried
     ∙ ap₂ (λ (ps : List GridPoint) m. after_tries (scale_of f.by) f.graph.now ps m (attempts_of c.args.groups.now) (record { sketch = old.sketch; made = old.made })) c.requires.first limit in
@@ -51,7 +51,7 @@ loop-search-smaller c =
     let old = c.loop-search.search in
     let new = c.try_groups.new.self in
     let settled = subst (λ (ps : List GridPoint). IsSettled (scale_of f.by) f.graph.now ps new.sketch new.weight) c.requires.first c.in_ok-try_groups.ensures.settled in
-    let limit : c.min-limit.result ≡ min c.args.most (old.made + c.args.at_once) = omega (arith, c.min-limit.ensures, c.saturating_add-limit.ensures, c.ranges.most) in
+    let limit : c.min-limit.result ≡ min c.args.most (old.made + c.args.at_once) = omega (arith, c.min-limit.ensures, c.saturating_add-raised.ensures, c.ranges.most) in
     let is =
     c.in_ok-try_groups.ensures.tried
     ∙ ap₂ (λ (ps : List GridPoint) m. after_tries (scale_of f.by) f.graph.now ps m (attempts_of c.args.groups.now) (record { sketch = old.sketch; made = old.made })) c.requires.first limit in
@@ -65,7 +65,7 @@ loop-search-preserved c =
     let old = c.loop-search.search in
     let new = c.try_groups.new.self in
     let settled = subst (λ (ps : List GridPoint). IsSettled (scale_of f.by) f.graph.now ps new.sketch new.weight) c.requires.first c.in_ok-try_groups.ensures.settled in
-    let limit : c.min-limit.result ≡ min c.args.most (old.made + c.args.at_once) = omega (arith, c.min-limit.ensures, c.saturating_add-limit.ensures, c.ranges.most) in
+    let limit : c.min-limit.result ≡ min c.args.most (old.made + c.args.at_once) = omega (arith, c.min-limit.ensures, c.saturating_add-raised.ensures, c.ranges.most) in
     let is =
     c.in_ok-try_groups.ensures.tried
     ∙ ap₂ (λ (ps : List GridPoint) m. after_tries (scale_of f.by) f.graph.now ps m (attempts_of c.args.groups.now) (record { sketch = old.sketch; made = old.made })) c.requires.first limit in

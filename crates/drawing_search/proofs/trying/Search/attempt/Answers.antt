@@ -31,29 +31,29 @@ returns-then-not-has_room c =
     attempt_no_room f.graph.now c.requires.field.graph (scale_of f.by) f.first.now c.args.group.now c.args.lifted.now c.args.vector s.sketch s.weight c.requires.off
     (ap (has_room s.sketch c.args.vector) (sym c.as_slice-moved.ensures.value) ∙ sym c.has_room.ensures ∙ c.if-not-has_room.true)
 
-pub aparts_after-base-requires-clause-nodes : goal.aparts_after-base-requires-clause-nodes
-aparts_after-base-requires-clause-nodes c =
+pub aparts_after-aparts-requires-clause-nodes : goal.aparts_after-aparts-requires-clause-nodes
+aparts_after-aparts-requires-clause-nodes c =
     let f = c.args.field in
     let s = c.args.self.now in
     subst (All (λ (m : NodeId × GridPoint). m.0.0 < length f.graph.now.kinds)) (sym c.as_slice-moved.ensures.value)
     (moved_nodes f.graph.now c.requires.field.graph (scale_of f.by) f.first.now c.args.group.now c.args.lifted.now c.args.vector s.sketch s.weight c.requires.off)
 
-pub aparts_after-base-requires-clause-few : goal.aparts_after-base-requires-clause-few
-aparts_after-base-requires-clause-few c =
+pub aparts_after-aparts-requires-clause-few : goal.aparts_after-aparts-requires-clause-few
+aparts_after-aparts-requires-clause-few c =
     let f = c.args.field in
     let s = c.args.self.now in
     let few = moved_few f.graph.now c.requires.field.graph (scale_of f.by) f.first.now c.args.group.now c.args.lifted.now c.args.vector s.sketch s.weight c.requires.off in
     omega (arith, few, ap length c.as_slice-moved.ensures.value)
 
-pub aparts_after-base-requires-clause-near : goal.aparts_after-base-requires-clause-near
-aparts_after-base-requires-clause-near c =
+pub aparts_after-aparts-requires-clause-near : goal.aparts_after-aparts-requires-clause-near
+aparts_after-aparts-requires-clause-near c =
     let f = c.args.field in
     let s = c.args.self.now in
     subst (All (λ (m : NodeId × GridPoint). is_near 2000 m.1 ≡ true)) (sym c.as_slice-moved.ensures.value)
     (moved_near f.graph.now c.requires.field.graph (scale_of f.by) f.first.now c.args.group.now c.args.lifted.now c.args.vector s.sketch s.weight c.requires.off)
 
-pub aparts_after-base-requires-clause-there : goal.aparts_after-base-requires-clause-there
-aparts_after-base-requires-clause-there c =
+pub aparts_after-aparts-requires-clause-there : goal.aparts_after-aparts-requires-clause-there
+aparts_after-aparts-requires-clause-there c =
     let f = c.args.field in
     let s = c.args.self.now in
     subst (All (λ (m : NodeId × GridPoint). is_near 2000 (moved_by c.args.vector m.1) ≡ true)) (sym c.as_slice-moved.ensures.value)
@@ -61,7 +61,7 @@ aparts_after-base-requires-clause-there c =
     (ap (has_room s.sketch c.args.vector) (sym c.as_slice-moved.ensures.value) ∙ sym c.has_room.ensures ∙ c.if-not-has_room.false))
 
 pub overflow_add-base : goal.overflow_add-base
-overflow_add-base c = omega (arith, c.aparts_after-base.ensures.small, c.requires.off.lifted.light, c.requires.off.settled.weight_is, c.requires.off.settled.small)
+overflow_add-base c = omega (arith, c.aparts_after-aparts.ensures.small, c.requires.off.lifted.light, c.requires.off.settled.weight_is, c.requires.off.settled.small)
 
 pub least_gains-requires-clause-near : goal.least_gains-requires-clause-near
 least_gains-requires-clause-near c =
@@ -84,8 +84,8 @@ least_gains-requires-clause-to c =
     subst (All (λ (x : Chain). (end_of x).0 < length s.sketch.points)) (sym c.as_slice-runs.ensures)
     (runs_to f.graph.now c.requires.field.graph (scale_of f.by) f.first.now c.args.group.now c.args.lifted.now c.args.vector s.sketch s.weight c.requires.off)
 
-pub returns-then-saturating_add-self-clause-attempted : goal.returns-then-saturating_add-self-clause-attempted
-returns-then-saturating_add-self-clause-attempted c =
+pub returns-then-whole-self-clause-attempted : goal.returns-then-whole-self-clause-attempted
+returns-then-whole-self-clause-attempted c =
     let f = c.args.field in
     let s = c.args.self.now in
     let l = c.args.lifted.now in
@@ -94,13 +94,13 @@ returns-then-saturating_add-self-clause-attempted c =
     let room = ap (has_room s.sketch v) (sym moved) ∙ sym c.has_room.ensures ∙ c.if-not-has_room.false in
     let base_is =
     ap (λ n. l.rest + n)
-    (c.aparts_after-base.ensures.weight
+    (c.aparts_after-aparts.ensures.weight
     ∙ ap (λ (ms : List (NodeId × GridPoint)). sum_by (λ (m : NodeId × GridPoint). apart_weight_by (scale_of f.by) m.0.0 (first_point f.first.now m.0.0) m.1) (all_moved v ms)) moved) in
     let ahead_is =
     c.least_gains-ahead.ensures
     ∙ ap (λ (ms : List (NodeId × GridPoint)). min 18446744073709551615 (gains_at_least (point_after s.sketch v ms) c.as_slice-runs.result.now c.deref.result.now)) moved
     ∙ ap₂ (λ (cs : List Chain) (ls : List LeastTurns). min 18446744073709551615 (gains_at_least (point_after s.sketch v l.moved.items) cs ls)) c.as_slice-runs.ensures c.deref.ensures.value in
-    attempt_heavy f.graph.now c.requires.field.graph (scale_of f.by) f.first.now c.args.group.now c.args.lifted.now c.args.vector s.sketch s.weight c.requires.off room (l.rest + c.aparts_after-base.result) c.least_gains-ahead.result base_is ahead_is (omega (arith, c.saturating_add.ensures, c.if-saturating_add-self.true))
+    attempt_heavy f.graph.now c.requires.field.graph (scale_of f.by) f.first.now c.args.group.now c.args.lifted.now c.args.vector s.sketch s.weight c.requires.off room (l.rest + c.aparts_after-aparts.result) c.least_gains-ahead.result base_is ahead_is (omega (arith, c.saturating_add-whole.ensures, c.if-whole-self.true))
 
 pub stand_moved-requires-clause-near : goal.stand_moved-requires-clause-near
 stand_moved-requires-clause-near c =
@@ -142,14 +142,14 @@ lay_all-requires-clause-base c =
     let room = ap (has_room s.sketch v) (sym moved) ∙ sym c.has_room.ensures ∙ c.if-not-has_room.false in
     let base_is =
     ap (λ n. l.rest + n)
-    (c.aparts_after-base.ensures.weight
+    (c.aparts_after-aparts.ensures.weight
     ∙ ap (λ (ms : List (NodeId × GridPoint)). sum_by (λ (m : NodeId × GridPoint). apart_weight_by (scale_of f.by) m.0.0 (first_point f.first.now m.0.0) m.1) (all_moved v ms)) moved) in
     let ahead_is =
     c.least_gains-ahead.ensures
     ∙ ap (λ (ms : List (NodeId × GridPoint)). min 18446744073709551615 (gains_at_least (point_after s.sketch v ms) c.as_slice-runs.result.now c.deref.result.now)) moved
     ∙ ap₂ (λ (cs : List Chain) (ls : List LeastTurns). min 18446744073709551615 (gains_at_least (point_after s.sketch v l.moved.items) cs ls)) c.as_slice-runs.ensures c.deref.ensures.value in
     let stood = c.stand_moved.ensures.sketch ∙ ap (λ (ms : List (NodeId × GridPoint)). fold stood_at s.sketch (all_moved v ms)) moved in
-    attempt_base f.graph.now c.requires.field.graph (scale_of f.by) f.first.now c.args.group.now c.args.lifted.now c.args.vector s.sketch s.weight c.requires.off room (l.rest + c.aparts_after-base.result) c.least_gains-ahead.result base_is ahead_is ∙ ap (sketch_weight (scale_of f.by) f.graph.now f.first.now) (sym stood)
+    attempt_base f.graph.now c.requires.field.graph (scale_of f.by) f.first.now c.args.group.now c.args.lifted.now c.args.vector s.sketch s.weight c.requires.off room (l.rest + c.aparts_after-aparts.result) c.least_gains-ahead.result base_is ahead_is ∙ ap (sketch_weight (scale_of f.by) f.graph.now f.first.now) (sym stood)
 
 pub lay_all-requires-clause-bounds : goal.lay_all-requires-clause-bounds
 lay_all-requires-clause-bounds c =
@@ -174,14 +174,14 @@ lay_all-requires-clause-ahead c =
     let room = ap (has_room s.sketch v) (sym moved) ∙ sym c.has_room.ensures ∙ c.if-not-has_room.false in
     let base_is =
     ap (λ n. l.rest + n)
-    (c.aparts_after-base.ensures.weight
+    (c.aparts_after-aparts.ensures.weight
     ∙ ap (λ (ms : List (NodeId × GridPoint)). sum_by (λ (m : NodeId × GridPoint). apart_weight_by (scale_of f.by) m.0.0 (first_point f.first.now m.0.0) m.1) (all_moved v ms)) moved) in
     let ahead_is =
     c.least_gains-ahead.ensures
     ∙ ap (λ (ms : List (NodeId × GridPoint)). min 18446744073709551615 (gains_at_least (point_after s.sketch v ms) c.as_slice-runs.result.now c.deref.result.now)) moved
     ∙ ap₂ (λ (cs : List Chain) (ls : List LeastTurns). min 18446744073709551615 (gains_at_least (point_after s.sketch v l.moved.items) cs ls)) c.as_slice-runs.ensures c.deref.ensures.value in
     let stood = c.stand_moved.ensures.sketch ∙ ap (λ (ms : List (NodeId × GridPoint)). fold stood_at s.sketch (all_moved v ms)) moved in
-    (attempt_ahead f.graph.now c.requires.field.graph (scale_of f.by) f.first.now c.args.group.now c.args.lifted.now c.args.vector s.sketch s.weight c.requires.off room (l.rest + c.aparts_after-base.result) c.least_gains-ahead.result base_is ahead_is (omega (arith, c.saturating_add.ensures, c.if-saturating_add-self.false))).0
+    (attempt_ahead f.graph.now c.requires.field.graph (scale_of f.by) f.first.now c.args.group.now c.args.lifted.now c.args.vector s.sketch s.weight c.requires.off room (l.rest + c.aparts_after-aparts.result) c.least_gains-ahead.result base_is ahead_is (omega (arith, c.saturating_add-whole.ensures, c.if-whole-self.false))).0
     ∙ ap (λ (j : Sketch). gains_at_least (λ (n : NodeId). point_of_node j n.0) c.args.group.now.runs l.least.items) (sym stood)
     ∙ ap₂ (λ (cs : List Chain) (ls : List LeastTurns). gains_at_least (λ (n : NodeId). point_of_node c.stand_moved.new.self.sketch n.0) cs ls) (sym c.as_slice-runs.ensures) (sym c.deref-2.ensures.value)
 
@@ -195,13 +195,13 @@ lay_all-requires-clause-less c =
     let room = ap (has_room s.sketch v) (sym moved) ∙ sym c.has_room.ensures ∙ c.if-not-has_room.false in
     let base_is =
     ap (λ n. l.rest + n)
-    (c.aparts_after-base.ensures.weight
+    (c.aparts_after-aparts.ensures.weight
     ∙ ap (λ (ms : List (NodeId × GridPoint)). sum_by (λ (m : NodeId × GridPoint). apart_weight_by (scale_of f.by) m.0.0 (first_point f.first.now m.0.0) m.1) (all_moved v ms)) moved) in
     let ahead_is =
     c.least_gains-ahead.ensures
     ∙ ap (λ (ms : List (NodeId × GridPoint)). min 18446744073709551615 (gains_at_least (point_after s.sketch v ms) c.as_slice-runs.result.now c.deref.result.now)) moved
     ∙ ap₂ (λ (cs : List Chain) (ls : List LeastTurns). min 18446744073709551615 (gains_at_least (point_after s.sketch v l.moved.items) cs ls)) c.as_slice-runs.ensures c.deref.ensures.value in
-    let less = (attempt_ahead f.graph.now c.requires.field.graph (scale_of f.by) f.first.now c.args.group.now c.args.lifted.now c.args.vector s.sketch s.weight c.requires.off room (l.rest + c.aparts_after-base.result) c.least_gains-ahead.result base_is ahead_is (omega (arith, c.saturating_add.ensures, c.if-saturating_add-self.false))).1 in
+    let less = (attempt_ahead f.graph.now c.requires.field.graph (scale_of f.by) f.first.now c.args.group.now c.args.lifted.now c.args.vector s.sketch s.weight c.requires.off room (l.rest + c.aparts_after-aparts.result) c.least_gains-ahead.result base_is ahead_is (omega (arith, c.saturating_add-whole.ensures, c.if-whole-self.false))).1 in
     omega (arith, less, c.stand_moved.ensures.weight)
 
 pub lay_all-requires-clause-weight : goal.lay_all-requires-clause-weight

@@ -19,12 +19,12 @@ pub point-from-requires : goal.point-from-requires
 point-from-requires c = omega (arith, run_from c.args.field.graph.now c.requires.field.graph c.args.run.now c.requires.run, c.requires.legal.points_each)
 
 pub point-to-requires : goal.point-to-requires
-point-to-requires c = omega (arith, run_to c.args.field.graph.now c.requires.field.graph c.args.run.now c.requires.run, c.requires.legal.points_each, ap (λ (n : NodeId). n.0) c.end_of-to.ensures)
+point-to-requires c = omega (arith, run_to c.args.field.graph.now c.requires.field.graph c.args.run.now c.requires.run, c.requires.legal.points_each, ap (λ (n : NodeId). n.0) c.end_of-end.ensures)
 
 pub walk_limit-most-requires-clause-enough : goal.walk_limit-most-requires-clause-enough
 walk_limit-most-requires-clause-enough c =
     let k = c.args.self.now.sketch in
-    let to = c.point-to.ensures ∙ ap (λ (n : NodeId). point_of_node k n.0) c.end_of-to.ensures in
+    let to = c.point-to.ensures ∙ ap (λ (n : NodeId). point_of_node k n.0) c.end_of-end.ensures in
     omega (arith, c.requires.room, ap₂ (λ (p q : GridPoint). slice_index c.args.least.by (straight_way p q)) c.point-from.ensures to)
 
 -- no walk within the limit
@@ -35,23 +35,23 @@ returns-then-not-branch-clause-laid c =
     let w = c.args.self.now.weight in
     let most = c.walk_limit-most.result in
     let none = subst (λ (b : Bool). IsLaid (laid_within f.graph.now most c.args.run.now k) k c.lay.new.self b) c.if-not-branch.true c.in_ok-lay.ensures in
-    let to = c.point-to.ensures ∙ ap (λ (n : NodeId). point_of_node k n.0) c.end_of-to.ensures in
+    let to = c.point-to.ensures ∙ ap (λ (n : NodeId). point_of_node k n.0) c.end_of-end.ensures in
     let limit = c.walk_limit-most.ensures.value ∙ ap₂ (λ (p q : GridPoint). limit_between c.args.least (w - 1 - c.args.weight - c.args.ahead) p q) c.point-from.ensures to in
     (
       subst (λ (j : Sketch). AreAlike j k) (sym none.1) (alike_self k),
       one_fails f.graph.now c.requires.field.graph c.args.run.now k c.requires.legal c.requires.run c.requires.free (scale_of f.by) f.first.now c.args.least c.requires.bound w c.args.weight c.args.ahead most (omega (arith, c.requires.room)) limit none.0,
     )
 
-pub run_gain-more-requires-clause-legal : goal.run_gain-more-requires-clause-legal
-run_gain-more-requires-clause-legal c =
+pub run_gain-gain-requires-clause-legal : goal.run_gain-gain-requires-clause-legal
+run_gain-gain-requires-clause-legal c =
     let f = c.args.field in
     let k = c.args.self.now.sketch in
     let mid = c.lay.new.self in
     let there : laid f.graph.now c.args.run.now k ≡ Some mid = laid_from_within f.graph.now c.walk_limit-most.result c.args.run.now k mid (subst (λ (b : Bool). IsLaid (laid_within f.graph.now c.walk_limit-most.result c.args.run.now k) k mid b) c.if-not-branch.false c.in_ok-lay.ensures) in
     one_legal f.graph.now c.requires.field.graph c.args.run.now k c.requires.legal c.requires.run c.requires.free mid there
 
-pub run_gain-more-requires-clause-inner : goal.run_gain-more-requires-clause-inner
-run_gain-more-requires-clause-inner c =
+pub run_gain-gain-requires-clause-inner : goal.run_gain-gain-requires-clause-inner
+run_gain-gain-requires-clause-inner c =
     let f = c.args.field in
     let k = c.args.self.now.sketch in
     let mid = c.lay.new.self in
@@ -67,15 +67,15 @@ take_run-requires-clause-takable c =
     let there : laid f.graph.now c.args.run.now k ≡ Some mid = laid_from_within f.graph.now c.walk_limit-most.result c.args.run.now k mid (subst (λ (b : Bool). IsLaid (laid_within f.graph.now c.walk_limit-most.result c.args.run.now k) k mid b) c.if-not-branch.false c.in_ok-lay.ensures) in
     one_takable f.graph.now c.requires.field.graph c.args.run.now k c.requires.legal c.requires.run c.requires.free mid there
 
-pub returns-then-more-self-clause-laid : goal.returns-then-more-self-clause-laid
-returns-then-more-self-clause-laid c =
+pub returns-then-whole-self-clause-laid : goal.returns-then-whole-self-clause-laid
+returns-then-whole-self-clause-laid c =
     let f = c.args.field in
     let k = c.args.self.now.sketch in
     let mid = c.lay.new.self in
     let there : laid f.graph.now c.args.run.now k ≡ Some mid = laid_from_within f.graph.now c.walk_limit-most.result c.args.run.now k mid (subst (λ (b : Bool). IsLaid (laid_within f.graph.now c.walk_limit-most.result c.args.run.now k) k mid b) c.if-not-branch.false c.in_ok-lay.ensures) in
     (
       subst (λ (j : Sketch). AreAlike j k) (sym c.take_run.ensures) (one_back f.graph.now c.requires.field.graph c.args.run.now k c.requires.legal c.requires.run c.requires.free mid there),
-      one_heavy f.graph.now c.requires.field.graph c.args.run.now k c.requires.legal c.requires.run c.requires.free mid there (scale_of f.by) f.first.now c.args.self.now.weight c.args.weight c.args.ahead (omega (arith, c.run_gain-more.ensures.gain, c.if-more-self.true)),
+      one_heavy f.graph.now c.requires.field.graph c.args.run.now k c.requires.legal c.requires.run c.requires.free mid there (scale_of f.by) f.first.now c.args.self.now.weight c.args.weight c.args.ahead (omega (arith, c.run_gain-gain.ensures.gain, c.if-whole-self.true)),
     )
 
 pub returns-clause-laid : goal.returns-clause-laid
@@ -84,4 +84,4 @@ returns-clause-laid c =
     let k = c.args.self.now.sketch in
     let mid = c.lay.new.self in
     let there : laid f.graph.now c.args.run.now k ≡ Some mid = laid_from_within f.graph.now c.walk_limit-most.result c.args.run.now k mid (subst (λ (b : Bool). IsLaid (laid_within f.graph.now c.walk_limit-most.result c.args.run.now k) k mid b) c.if-not-branch.false c.in_ok-lay.ensures) in
-    (there, ap (λ g. c.args.weight + g) c.run_gain-more.ensures.gain, omega (arith, c.if-more-self.false))
+    (there, ap (λ g. c.args.weight + g) c.run_gain-gain.ensures.gain, omega (arith, c.if-whole-self.false))
