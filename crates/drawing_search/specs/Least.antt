@@ -1,5 +1,5 @@
 -- What a run adds at least, by the ports that its ends may have.
-use Rattle.std.specs.Prelude.{ℕ, ◌+◌, ◌*◌, ◌-◌, ◌/◌, ◌==◌, ◌||◌, ◌&&◌, nat_lt, max, min, Bool, true, false, List, [], length, map, filter, fold, if◌then◌else◌, slice_index_or, ◌-ℤ◌, int_lt, unsigned_abs}
+use Rattle.std.specs.Prelude.{ℕ, ◌+◌, ◌*◌, ◌-◌, ◌/◌, ◌==◌, ◌||◌, ◌&&◌, nat_lt, max, min, Bool, List, [], length, map, filter, fold, if◌then◌else◌, slice_index_or, ◌-ℤ◌, int_lt, unsigned_abs}
 use Rattle.std.specs.Int.{bit_at}
 use Rattle.std.specs.List.{flat_map}
 use Rattle.map_base.specs.declared.ids.NodeId.{NodeId}
@@ -29,10 +29,7 @@ never = 1125899906842624
 
 -- the number of a diagonal direction
 abbrev pub diagonal : Bool → Bool → ℕ
-diagonal true true = 1
-diagonal true false = 3
-diagonal false false = 5
-diagonal false true = 7
+diagonal is_east is_north = if is_east then (if is_north then 1 else 3) else (if is_north then 7 else 5)
 
 -- the number of the direction in which a straight way leads from one point to another; 8 where none does
 abbrev pub straight_way : GridPoint → GridPoint → ℕ

@@ -58,10 +58,18 @@ impl LeastTurns {
         ensures small { result < 2 ^ 63 }
     {
         let turns = self.turns_between(from, to);
+        may_add - turns + self.most_turns(turns)
+    }
+
+    /// How many turns of 45 degrees the walk makes at most beside what it adds for so much.
+    fn most_turns(self, turns: u64) -> u64
+        ensures value { result ≡ (if self.per_turn == 0 then self.free_turns else turns / self.per_turn) }
+        ensures small { result ≤ turns + self.free_turns }
+    {
         if self.per_turn == 0 {
-            return may_add - turns + self.free_turns;
+            return self.free_turns;
         }
-        may_add - turns + turns / self.per_turn
+        turns / self.per_turn
     }
 
     /// The least of these and of walks that leave by one port, if it is allowed, and come by any port that is.
@@ -187,10 +195,12 @@ impl<'a> Field<'a> {
         ensures price { result ≡ turn_price (scale_of self.entry.by) self.entry.graph.now steps.now }
         ensures small { result ≤ 101 }
     {
-        if steps.len() == 1 {
+        let count = steps.len();
+        if count == 1 {
             return 1 + self.by.turns;
         }
-        if self.free_nodes(steps) != 0 {
+        let free = self.free_nodes(steps);
+        if free != 0 {
             return 0;
         }
         self.by.overs.min(1 + self.by.turns)
@@ -271,10 +281,10 @@ fn straight_way(from: GridPoint, to: GridPoint) -> usize
     if along == 0 {
         return if from.x < to.x { 2 } else { 6 };
     }
-    if across != along {
-        return 8;
+    if across == along {
+        return diagonal(from.x < to.x, from.y < to.y);
     }
-    diagonal(from.x < to.x, from.y < to.y)
+    8
 }
 
 /// The number of a diagonal direction.
@@ -282,10 +292,11 @@ fn diagonal(is_east: bool, is_north: bool) -> usize
     ensures value { result ≡ diagonal is_east is_north }
     ensures small { result ≤ 8 }
 {
-    match (is_east, is_north) {
-        (true, true) => 1,
-        (true, false) => 3,
-        (false, false) => 5,
-        (false, true) => 7,
+    if is_east {
+        if is_north { 1 } else { 3 }
+    } else if is_north {
+        7
+    } else {
+        5
     }
 }

@@ -29,7 +29,7 @@ use crate::lifting::{Lifted, lift, put_back};
 use crate::sketch::Sketch;
 use line_chains::Chain;
 use map_base::{NoMemory, NodeId};
-use octi_grid::GridPoint;
+use octi_grid::{GridPoint, Run, run_end};
 use std::alloc::Global;
 
 /// A search under way: the drawing, what it weighs, and how many attempts were made.
@@ -395,11 +395,13 @@ fn after(p: GridPoint, vector: Vector) -> GridPoint
     requires count { vector.count ≤ 8 }
     ensures { result ≡ after p (replicate vector.count vector.dir) }
 {
-    let count = vector.count as i32;
-    GridPoint {
-        x: p.x + count * vector.dir.east(),
-        y: p.y + count * vector.dir.north(),
-    }
+    run_end(
+        p,
+        Run {
+            dir: vector.dir,
+            count: vector.count,
+        },
+    )
 }
 
 /// Where a run ends.

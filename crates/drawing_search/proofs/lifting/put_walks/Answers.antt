@@ -40,12 +40,12 @@ loop-s-preserved c =
     let t = YieldsList-turn (YieldsList-from_vec ms (cc) (cc)) done _ c.loop-s.yielded_by _ _ m c.in-Some.is c.next.ensures.steps in
     let more : length (done ++ m ∷ []) ≡ length done + 1 = length_push done m in
     record {
-      rest = ap (λ i. fold walked_by c.put_walk.new.sketch (drop i ms)) more
+      rest = ap (λ i. fold walked_by c.put_walk.new.self (drop i ms)) more
           ∙ ap (λ (j : Sketch). fold walked_by j (drop (length done + 1) ms)) c.put_walk.ensures
           ∙ ap (λ (x : SegId × PlainWalk). fold walked_by (walked_by k x) (drop (length done + 1) ms)) t.1
           ∙ sym (at_drop_more (fold walked_by k) ms (length done) m t.0)
           ∙ c.loop-s.invariant.rest;
-      can = subst (λ i. CanWalkEach c.put_walk.new.sketch (drop i ms)) (sym more)
+      can = subst (λ i. CanWalkEach c.put_walk.new.self (drop i ms)) (sym more)
           (subst (λ (j : Sketch). CanWalkEach j (drop (length done + 1) ms)) (sym c.put_walk.ensures) (next k ms (length done) m t.0 t.1 c.loop-s.invariant.can).1);
     }
 
