@@ -19,13 +19,6 @@ last_seg_is s (t ∷ []) (suc n) d h = absurd (omega arith)
 last_seg_is s (t ∷ u ∷ us) zero d h = absurd (omega arith)
 last_seg_is s (t ∷ u ∷ us) (suc n) d h = last_seg_is t.seg (u ∷ us) n d (omega arith)
 
-pub end_is : (m : NodeId) (ts : List ChainStep) (n : ℕ) (d : ChainStep) → length ts ≡ suc n → end_after m ts ≡ (get_or ts n d).to
-end_is m [] n d h = absurd (omega arith)
-end_is m (t ∷ []) zero d h = refl
-end_is m (t ∷ []) (suc n) d h = absurd (omega arith)
-end_is m (t ∷ u ∷ us) zero d h = absurd (omega arith)
-end_is m (t ∷ u ∷ us) (suc n) d h = end_is t.to (u ∷ us) n d (omega arith)
-
 -- the nodes between steps, one after another
 pub inner_more : (ts : List ChainStep) (i : ℕ) (d : ChainStep) → 0 < i → i < length ts → inner_nodes (drop (i - 1) ts) ≡ (get_or ts (i - 1) d).to ∷ inner_nodes (drop i ts)
 inner_more ts i d some h =

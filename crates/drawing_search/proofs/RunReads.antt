@@ -18,7 +18,8 @@ use Rattle.run_laying.specs.Sketches.{is_standing}
 use Rattle.run_laying.proofs.RunFacts.{end_below, leads_to, step_of}
 use Rattle.drawing_search.specs.Gains.{AreOnGraph}
 use Rattle.drawing_search.proofs.LaidAll.{first_end, last_end}
-use Rattle.drawing_search.proofs.RunEnds.{end_is, first_seg_is, last_seg_is}
+use Rattle.line_chains.proofs.Walking.{end_is}
+use Rattle.drawing_search.proofs.RunEnds.{first_seg_is, last_seg_is}
 
 abbrev pub no_step : ChainStep
 no_step = record { seg = record { 0 = 0 }; to = record { 0 = 0 } }

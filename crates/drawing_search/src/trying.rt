@@ -196,7 +196,7 @@ impl Search {
         for i in 0..runs.len() {
             let run = &runs[i];
             let from = self.point_after(run.from, moved, vector);
-            let end = end_of(run);
+            let end = run.end();
             let to = self.point_after(end, moved, vector);
             let more = least[i].between(from, to);
             total = total.saturating_add(more);
@@ -291,7 +291,7 @@ impl Search {
         ensures { result ≡ least_between least (point_of_node self.now.sketch run.now.from.0) (point_of_node self.now.sketch (end_of run.now).0) }
     {
         let from = self.sketch.point(run.from);
-        let end = end_of(run);
+        let end = run.end();
         let to = self.sketch.point(end);
         least.between(from, to)
     }
@@ -320,7 +320,7 @@ impl Search {
         ensures made { OnOk result (self.new.made ≡ self.old.made) }
     {
         let from = self.sketch.point(run.from);
-        let end = end_of(run);
+        let end = run.end();
         let to = self.sketch.point(end);
         let most = least.walk_limit(self.weight - 1 - weight - ahead, from, to);
         if !self.sketch.lay(alloc, field.graph, run, most)? {
@@ -383,9 +383,13 @@ fn vector_of(lengths: u32, i: u32) -> Vector
     ensures dir { result.dir ≡ direction (i % 8) }
     ensures count { result.count ≡ (if lengths == 0 then 0 else 2 * (i / 8 + 1)) }
 {
+    let dir = direction((i % 8) as usize);
+    if lengths == 0 {
+        return Vector { dir, count: 0 };
+    }
     Vector {
-        dir: direction((i % 8) as usize),
-        count: if lengths == 0 { 0 } else { 2 * (i / 8 + 1) },
+        dir,
+        count: 2 * (i / 8 + 1),
     }
 }
 
@@ -402,14 +406,4 @@ fn after(p: GridPoint, vector: Vector) -> GridPoint
             count: vector.count,
         },
     )
-}
-
-/// Where a run ends.
-fn end_of(run: &Chain) -> NodeId
-    ensures { result ≡ end_of run.now }
-{
-    match run.steps.as_slice().last() {
-        None => run.from,
-        Some(step) => step.to,
-    }
 }

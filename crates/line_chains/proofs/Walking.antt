@@ -95,3 +95,15 @@ along_below m c i d h all = of_steps c.steps i h (λ j e g. all (suc j) e (omega
     of_steps [] j g each = absurd (omega (arith, g))
     of_steps (t ∷ ts) zero g each = each 0 t.to (omega arith)
     of_steps (t ∷ ts) (suc j) g each = of_steps ts j (omega arith) (λ k e f. each (suc k) e (omega arith))
+
+-- where steps end
+pub end_is : (m : NodeId) (ts : List ChainStep) (n : ℕ) (d : ChainStep) → length ts ≡ suc n → end_after m ts ≡ (get_or ts n d).to
+end_is m [] n d h = absurd (omega arith)
+end_is m (t ∷ []) zero d h = refl
+end_is m (t ∷ []) (suc n) d h = absurd (omega arith)
+end_is m (t ∷ u ∷ us) zero d h = absurd (omega arith)
+end_is m (t ∷ u ∷ us) (suc n) d h = end_is t.to (u ∷ us) n d (omega arith)
+
+pub end_none : (m : NodeId) (ts : List ChainStep) → length ts ≡ 0 → end_after m ts ≡ m
+end_none m [] h = refl
+end_none m (t ∷ ts) h = absurd (omega arith)

@@ -11,7 +11,7 @@ ghost use Rattle.drawing_search.specs.Searched.{attempts_in, attempts_of};
 ghost use Rattle.line_straightening.specs.Groups.{all_nodes, AreGroupsFor, AreRunsOf, IsSound};
 ghost use Rattle.line_straightening.specs.Straightening.{moves_of, straight_attempts};
 
-use crate::runs::{copy_of, end_of, runs_at, single_runs};
+use crate::runs::{copy_of, runs_at, single_runs};
 use bit_flags::Flags;
 use drawing_search::Group;
 use graph_core::LineGraph;
@@ -145,7 +145,9 @@ fn push_ends(alloc: Global, runs: &[Chain], groups: &mut Vec<Group>) -> Result<(
     ensures attempts { OnOk result (attempts_of groups.new.items ≡ attempts_of groups.old.items ++ flat_map (λ (c : Chain). moves_of runs.now (c.from ∷ end_of c ∷ [])) runs.now) }
 {
     for run in runs {
-        groups.push(group_between(alloc, run.from, end_of(run), runs)?)?;
+        let end = run.end();
+        let group = group_between(alloc, run.from, end, runs)?;
+        groups.push(group)?;
     }
     Ok(())
 }

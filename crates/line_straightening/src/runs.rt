@@ -1,7 +1,6 @@
 //! Runs, and those that end at nodes.
 
 ghost use Rattle.std.specs.Prelude.{◌≡◌, ◌<◌, ◌++◌, ◌∷◌, [], if◌then◌else◌, length, IfOk, OnOk};
-ghost use Rattle.line_chains.specs.Chains.{end_of};
 ghost use Rattle.run_laying.specs.Attempts.{has_node, run_of};
 ghost use Rattle.line_straightening.specs.Straightening.{ends_at, runs_at, single_runs};
 
@@ -33,16 +32,6 @@ fn run_of(alloc: Global, graph: &LineGraph, s: SegId) -> Result<Chain, NoMemory>
         from: low,
         steps: Sequence::of(steps),
     })
-}
-
-/// Where a run ends.
-pub(crate) fn end_of(run: &Chain) -> NodeId
-    ensures { result ≡ end_of run.now }
-{
-    match run.steps.as_slice().last() {
-        None => run.from,
-        Some(step) => step.to,
-    }
 }
 
 /// The runs that end at one of these nodes, in their order.
@@ -82,7 +71,7 @@ fn ends_at(nodes: &[NodeId], run: &Chain) -> bool
     if has_node(nodes, run.from) {
         return true;
     }
-    has_node(nodes, end_of(run))
+    has_node(nodes, run.end())
 }
 
 /// Whether a node is one of these.

@@ -18,20 +18,20 @@ loop-run-init c = record { sound = c.requires.sound; attempts = refl }
 pub group_between-requires : goal.group_between-requires
 group_between-requires c =
     let r = c.run-item.result in
-    subst (λ (n : NodeId). r.from.0 ≢ n.0) (sym c.end_of.ensures) (subst (λ (x : Chain). x.from.0 ≢ (end_of x).0) (sym c.run-item.is) (c.requires.apart c.loop-run.run-index r c.loop-run-test.true))
+    subst (λ (n : NodeId). r.from.0 ≢ n.0) (sym c.end-end.ensures) (subst (λ (x : Chain). x.from.0 ≢ (end_of x).0) (sym c.run-item.is) (c.requires.apart c.loop-run.run-index r c.loop-run-test.true))
 
 pub loop-run-preserved : goal.loop-run-preserved
 loop-run-preserved c =
     let rs = c.args.runs.now in
     let gs = c.loop-run.groups.items in
-    let g = c.in_ok-group_between.field-0 in
+    let g = c.in_ok-group.group in
     let r = c.run-item.result in
     let pushed = c.in_ok-push.ensures.items in
     let moves = λ (x : Chain). moves_of rs (x.from ∷ end_of x ∷ []) in
     record {
-      sound = subst (All IsSound) (sym pushed) (All-push IsSound gs g c.loop-run.invariant.sound c.in_ok-group_between.ensures.sound);
+      sound = subst (All IsSound) (sym pushed) (All-push IsSound gs g c.loop-run.invariant.sound c.in_ok-group.ensures.sound);
       attempts = push_more moves rs c.loop-run.run-index r gs c.push.new.self.items g c.loop-run-test.true
-          (c.in_ok-group_between.ensures.attempts ∙ ap (λ (n : NodeId). moves_of rs (r.from ∷ n ∷ [])) c.end_of.ensures ∙ ap moves c.run-item.is) pushed
+          (c.in_ok-group.ensures.attempts ∙ ap (λ (n : NodeId). moves_of rs (r.from ∷ n ∷ [])) c.end-end.ensures ∙ ap moves c.run-item.is) pushed
           ∙ c.loop-run.invariant.attempts;
     }
 

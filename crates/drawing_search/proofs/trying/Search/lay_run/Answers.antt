@@ -19,12 +19,12 @@ pub point-from-requires : goal.point-from-requires
 point-from-requires c = omega (arith, run_from c.args.field.graph.now c.requires.field.graph c.args.run.now c.requires.run, c.requires.legal.points_each)
 
 pub point-to-requires : goal.point-to-requires
-point-to-requires c = omega (arith, run_to c.args.field.graph.now c.requires.field.graph c.args.run.now c.requires.run, c.requires.legal.points_each, ap (λ (n : NodeId). n.0) c.end_of-end.ensures)
+point-to-requires c = omega (arith, run_to c.args.field.graph.now c.requires.field.graph c.args.run.now c.requires.run, c.requires.legal.points_each, ap (λ (n : NodeId). n.0) c.end-end.ensures)
 
 pub walk_limit-most-requires-clause-enough : goal.walk_limit-most-requires-clause-enough
 walk_limit-most-requires-clause-enough c =
     let k = c.args.self.now.sketch in
-    let to = c.point-to.ensures ∙ ap (λ (n : NodeId). point_of_node k n.0) c.end_of-end.ensures in
+    let to = c.point-to.ensures ∙ ap (λ (n : NodeId). point_of_node k n.0) c.end-end.ensures in
     omega (arith, c.requires.room, ap₂ (λ (p q : GridPoint). slice_index c.args.least.by (straight_way p q)) c.point-from.ensures to)
 
 -- no walk within the limit
@@ -35,7 +35,7 @@ returns-then-not-branch-clause-laid c =
     let w = c.args.self.now.weight in
     let most = c.walk_limit-most.result in
     let none = subst (λ (b : Bool). IsLaid (laid_within f.graph.now most c.args.run.now k) k c.lay.new.self b) c.if-not-branch.true c.in_ok-lay.ensures in
-    let to = c.point-to.ensures ∙ ap (λ (n : NodeId). point_of_node k n.0) c.end_of-end.ensures in
+    let to = c.point-to.ensures ∙ ap (λ (n : NodeId). point_of_node k n.0) c.end-end.ensures in
     let limit = c.walk_limit-most.ensures.value ∙ ap₂ (λ (p q : GridPoint). limit_between c.args.least (w - 1 - c.args.weight - c.args.ahead) p q) c.point-from.ensures to in
     (
       subst (λ (j : Sketch). AreAlike j k) (sym none.1) (alike_self k),

@@ -15,7 +15,7 @@ point_after-from-requires-clause-node c =
 pub point_after-to-requires-clause-node : goal.point_after-to-requires-clause-node
 point_after-to-requires-clause-node c =
     let there = subst (λ (x : Chain). (end_of x).0 < length c.args.self.now.sketch.points) (sym c.index-runs-i.is) (c.requires.to c.loop-i.i c.index-runs-i.result c.loop-i-test.true) in
-    subst (λ (n : NodeId). n.0 < length c.args.self.now.sketch.points) (sym c.end_of-end.ensures) there
+    subst (λ (n : NodeId). n.0 < length c.args.self.now.sketch.points) (sym c.end-end.ensures) there
 
 pub between-more-requires : goal.between-more-requires
 between-more-requires c = c.requires.small c.loop-i.i _ (omega (arith, c.loop-i-test.true, c.requires.each))
@@ -28,7 +28,7 @@ loop-i-preserved c =
     let f = point_after c.args.self.now.sketch c.args.vector c.args.moved.now in
     record {
       gains = gains_step f c.args.runs.now c.args.least.now c.loop-i.i c.index-runs-i.result _ c.point_after-from.result c.point_after-to.result 18446744073709551615 c.loop-i.total c.between-more.result c.saturating_add-total.result
-          (min 18446744073709551615 (gains_at_least f c.args.runs.now c.args.least.now)) c.loop-i-test.true c.requires.each c.index-runs-i.is c.point_after-from.ensures (c.point_after-to.ensures ∙ ap f c.end_of-end.ensures)
+          (min 18446744073709551615 (gains_at_least f c.args.runs.now c.args.least.now)) c.loop-i-test.true c.requires.each c.index-runs-i.is c.point_after-from.ensures (c.point_after-to.ensures ∙ ap f c.end-end.ensures)
           c.between-more.ensures.value (omega (arith, c.saturating_add-total.ensures)) c.loop-i.invariant.gains;
       few = omega (arith, c.saturating_add-total.ensures);
     }
