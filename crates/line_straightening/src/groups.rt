@@ -54,7 +54,8 @@ fn push_alone(alloc: Global, runs: &[Chain], groups: &mut Vec<Group>) -> Result<
     ensures attempts { OnOk result (attempts_of groups.new.items ≡ attempts_of groups.old.items ++ map attempts_alone runs.now) }
 {
     for run in runs {
-        groups.push(alone(alloc, run)?)?;
+        let group = alone(alloc, run)?;
+        groups.push(group)?;
     }
     Ok(())
 }
@@ -64,10 +65,12 @@ fn alone(alloc: Global, run: &Chain) -> Result<Group, NoMemory>
     ensures attempts { IfOk result (λ group. attempts_in group ≡ attempts_alone run.now ∷ []) }
     ensures sound { IfOk result IsSound }
 {
+    let copy = copy_of(alloc, run)?;
+    let nodes = Vec::new(alloc);
     let mut runs = Vec::new(alloc);
-    runs.push(copy_of(alloc, run)?)?;
+    runs.push(copy)?;
     Ok(Group {
-        nodes: Sequence::of(Vec::new(alloc)),
+        nodes: Sequence::of(nodes),
         lengths: 0,
         runs: Sequence::of(runs),
     })
@@ -104,9 +107,11 @@ fn push_corner(
     ensures sound { OnOk result (All IsSound groups.new.items) }
     ensures attempts { OnOk result (attempts_of groups.new.items ≡ attempts_of groups.old.items ++ (if is_corner corners.now n then moves_of runs.now (n ∷ []) else [])) }
 {
-    if corners.is_raised(n.0 as usize) {
-        groups.push(group_at(alloc, n, runs)?)?;
+    if !corners.is_raised(n.0 as usize) {
+        return Ok(());
     }
+    let group = group_at(alloc, n, runs)?;
+    groups.push(group)?;
     Ok(())
 }
 
@@ -122,7 +127,8 @@ fn push_nodes(
     ensures attempts { OnOk result (attempts_of groups.new.items ≡ attempts_of groups.old.items ++ flat_map (λ n. moves_of runs.now (n ∷ [])) (all_nodes nodes)) }
 {
     for n in 0..nodes {
-        groups.push(group_at(alloc, NodeId(n), runs)?)?;
+        let group = group_at(alloc, NodeId(n), runs)?;
+        groups.push(group)?;
     }
     Ok(())
 }

@@ -15,7 +15,8 @@ pub(crate) fn single_runs(alloc: Global, graph: &LineGraph) -> Result<Vec<Chain>
 {
     let mut runs = Vec::new(alloc);
     for s in 0..graph.segs() {
-        runs.push(run_of(alloc, graph, SegId(s))?)?;
+        let run = run_of(alloc, graph, SegId(s))?;
+        runs.push(run)?;
     }
     Ok(runs)
 }
@@ -59,7 +60,8 @@ fn push_if_at(
     ensures { OnOk result (found.new.items ≡ (if ends_at nodes.now run.now then found.old.items ++ run.now ∷ [] else found.old.items)) }
 {
     if ends_at(nodes, run) {
-        found.push(copy_of(alloc, run)?)?;
+        let copy = copy_of(alloc, run)?;
+        found.push(copy)?;
     }
     Ok(())
 }
@@ -71,7 +73,8 @@ fn ends_at(nodes: &[NodeId], run: &Chain) -> bool
     if has_node(nodes, run.from) {
         return true;
     }
-    has_node(nodes, run.end())
+    let end = run.end();
+    has_node(nodes, end)
 }
 
 /// Whether a node is one of these.
@@ -90,8 +93,9 @@ fn has_node(nodes: &[NodeId], n: NodeId) -> bool
 pub(crate) fn copy_of(alloc: Global, run: &Chain) -> Result<Chain, NoMemory>
     ensures { IfOk result (λ copy. copy ≡ run.now) }
 {
+    let steps = run.steps.as_slice().to_vec(alloc)?;
     Ok(Chain {
         from: run.from,
-        steps: Sequence::of(run.steps.as_slice().to_vec(alloc)?),
+        steps: Sequence::of(steps),
     })
 }

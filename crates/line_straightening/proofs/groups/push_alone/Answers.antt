@@ -17,12 +17,12 @@ loop-run-init c = record { sound = c.requires.sound; attempts = refl }
 pub loop-run-preserved : goal.loop-run-preserved
 loop-run-preserved c =
     let gs = c.loop-run.groups.items in
-    let g = c.in_ok-alone.field-0 in
+    let g = c.in_ok-group.group in
     let r = c.run-item.result in
     let pushed = c.in_ok-push.ensures.items in
     record {
-      sound = subst (All IsSound) (sym pushed) (All-push IsSound gs g c.loop-run.invariant.sound c.in_ok-alone.ensures.sound);
-      attempts = push_more alone c.args.runs.now c.loop-run.run-index r gs c.push.new.self.items g c.loop-run-test.true (c.in_ok-alone.ensures.attempts ∙ ap alone c.run-item.is) pushed ∙ c.loop-run.invariant.attempts;
+      sound = subst (All IsSound) (sym pushed) (All-push IsSound gs g c.loop-run.invariant.sound c.in_ok-group.ensures.sound);
+      attempts = push_more alone c.args.runs.now c.loop-run.run-index r gs c.push.new.self.items g c.loop-run-test.true (c.in_ok-group.ensures.attempts ∙ ap alone c.run-item.is) pushed ∙ c.loop-run.invariant.attempts;
     }
 
 pub returns-clause-attempts : goal.returns-clause-attempts

@@ -16,11 +16,11 @@ pub loop-n-preserved : goal.loop-n-preserved
 loop-n-preserved c =
     let rs = c.args.runs.now in
     let gs = c.loop-n.groups.items in
-    let g = c.in_ok-group_at.field-0 in
+    let g = c.in_ok-group.group in
     let pushed = c.in_ok-push.ensures.items in
     record {
-      sound = subst (All IsSound) (sym pushed) (All-push IsSound gs g c.loop-n.invariant.sound c.in_ok-group_at.ensures.sound);
-      attempts = push_node_more (λ (m : NodeId). moves_of rs (m ∷ [])) (attempts_of c.args.groups.now.items) gs c.push.new.self.items g c.loop-n.n c.loop-n.invariant.attempts c.in_ok-group_at.ensures.attempts pushed;
+      sound = subst (All IsSound) (sym pushed) (All-push IsSound gs g c.loop-n.invariant.sound c.in_ok-group.ensures.sound);
+      attempts = push_node_more (λ (m : NodeId). moves_of rs (m ∷ [])) (attempts_of c.args.groups.now.items) gs c.push.new.self.items g c.loop-n.n c.loop-n.invariant.attempts c.in_ok-group.ensures.attempts pushed;
     }
 
 pub returns-clause-attempts : goal.returns-clause-attempts

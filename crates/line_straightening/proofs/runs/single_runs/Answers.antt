@@ -9,7 +9,7 @@ pub loop-s-preserved : goal.loop-s-preserved
 loop-s-preserved c =
     let s = c.loop-s.s in
     c.in_ok-push.ensures.items
-    ∙ ap₂ (λ (v : List Chain) (x : Chain). v ++ x ∷ []) c.loop-s.invariant c.in_ok-run_of.ensures
+    ∙ ap₂ (λ (v : List Chain) (x : Chain). v ++ x ∷ []) c.loop-s.invariant c.in_ok-run.ensures
     ∙ sym (map-range_with_len_more (λ i. run_of c.args.graph.now (record { 0 = i })) 0 s s (omega arith))
 
 pub returns : goal.returns
