@@ -37,12 +37,13 @@ pub(crate) fn groups_of(
     requires fitting { All (IsFitting graph.now) (straight_attempts graph.now corners.now) }
     ensures { IfOk result (λ groups. AreGroupsFor graph.now (straight_attempts graph.now corners.now) groups.items) }
 {
+    let nodes = graph.nodes();
     let mut groups = Vec::new(alloc);
     push_alone(alloc, chains, &mut groups)?;
     push_corners(alloc, corners, chains, &mut groups)?;
     push_ends(alloc, chains, &mut groups)?;
     let singles = single_runs(alloc, graph)?;
-    push_nodes(alloc, graph.nodes(), &singles, &mut groups)?;
+    push_nodes(alloc, nodes, &singles, &mut groups)?;
     push_ends(alloc, &singles, &mut groups)?;
     Ok(groups)
 }
