@@ -138,7 +138,7 @@ module _ (graph : GraphParts) (fit : IsConsistent graph) (scale : Scale) (k : Sk
 
   pub outcome_is : {E : Type 0} (attempts : List Attempt) (at_once most : ℕ) (j : Sketch) (weight made before : ℕ) (r : Result Searched E) → IsGood graph k.bounds j → weight ≡ sketch_weight scale graph (points_all graph first) j → weight ≤ before
       → before ≡ sketch_weight scale graph (points_all graph first) k → (let f : Found = record { walks = walks_of j; made = made } in f) ≡ found_on graph scale k.bounds attempts at_once most first
-      → IfOk r (λ s. s.drawing.walks ≡ walks_of j) → IfOk r (λ s. s.made ≡ made) → IfOk r (λ s. s.before ≡ before) → IfOk r (λ s. s.after ≡ weight) → IfOk r (IsSearchedOn graph scale k.bounds attempts at_once most first)
+      → IfOk r (λ (s : Searched). s.drawing.walks ≡ walks_of j) → IfOk r (λ (s : Searched). s.made ≡ made) → IfOk r (λ (s : Searched). s.before ≡ before) → IfOk r (λ (s : Searched). s.after ≡ weight) → IfOk r (IsSearchedOn graph scale k.bounds attempts at_once most first)
   outcome_is attempts at_once most j weight made before (Ok s) good weighs lighter first_weighs found drawing made_is before_is after = search_ends attempts at_once most j weight made before s good weighs lighter first_weighs found drawing made_is before_is after
   outcome_is attempts at_once most j weight made before (Err e) good weighs lighter first_weighs found drawing made_is before_is after = tt
 
