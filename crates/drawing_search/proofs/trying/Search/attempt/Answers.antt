@@ -10,7 +10,7 @@ use Rattle.drawing_weights.specs.Scales.{apart_weight_by, scale_of}
 use Rattle.run_laying.specs.Laying.{Sketch}
 use Rattle.run_laying.specs.Sketches.{lifted, point_of_node}
 use Rattle.drawing_search.specs.declared.least.LeastTurns.{LeastTurns}
-use Rattle.drawing_search.specs.Bounds.{gains_at_least, HaveBounds}
+use Rattle.drawing_search.specs.Bounds.{gains_at_least, HaveBounds, IsSmallLeast}
 use Rattle.drawing_search.specs.Changes.{all_moved, has_room, moved_by, point_after, stood_at, AreLayable, AreLiftable, CanStandEach}
 use Rattle.drawing_search.specs.Tries.{AreAllLaid}
 use Rattle.drawing_search.specs.Gains.{first_point, sketch_weight}
@@ -24,8 +24,8 @@ has_room-requires-clause-near c =
     subst (All (λ (m : NodeId × GridPoint). is_near 2000 m.1 ≡ true)) (sym c.as_slice-moved.ensures.value)
     (moved_near f.graph.now c.requires.field.graph (scale_of f.by) f.first.now c.args.group.now c.args.lifted.now c.args.vector s.sketch s.weight c.requires.off)
 
-pub returns-then-not-has_room : goal.returns-then-not-has_room
-returns-then-not-has_room c =
+pub returns-then-not-has_room-clause-attempted : goal.returns-then-not-has_room-clause-attempted
+returns-then-not-has_room-clause-attempted c =
     let f = c.args.field in
     let s = c.args.self.now in
     attempt_no_room f.graph.now c.requires.field.graph (scale_of f.by) f.first.now c.args.group.now c.args.lifted.now c.args.vector s.sketch s.weight c.requires.off
@@ -83,6 +83,12 @@ least_gains-requires-clause-to c =
     let s = c.args.self.now in
     subst (All (λ (x : Chain). (end_of x).0 < length s.sketch.points)) (sym c.as_slice-runs.ensures)
     (runs_to f.graph.now c.requires.field.graph (scale_of f.by) f.first.now c.args.group.now c.args.lifted.now c.args.vector s.sketch s.weight c.requires.off)
+
+pub least_gains-requires-clause-each : goal.least_gains-requires-clause-each
+least_gains-requires-clause-each c = ap length c.deref.ensures.value ∙ c.requires.off.lifted.each ∙ ap length (sym c.as_slice-runs.ensures)
+
+pub least_gains-requires-clause-small : goal.least_gains-requires-clause-small
+least_gains-requires-clause-small c = subst (All IsSmallLeast) (sym c.deref.ensures.value) c.requires.off.lifted.small
 
 pub returns-then-whole-self-clause-attempted : goal.returns-then-whole-self-clause-attempted
 returns-then-whole-self-clause-attempted c =
@@ -150,6 +156,12 @@ lay_all-requires-clause-base c =
     ∙ ap₂ (λ (cs : List Chain) (ls : List LeastTurns). min 18446744073709551615 (gains_at_least (point_after s.sketch v l.moved.items) cs ls)) c.as_slice-runs.ensures c.deref.ensures.value in
     let stood = c.stand_moved.ensures.sketch ∙ ap (λ (ms : List (NodeId × GridPoint)). fold stood_at s.sketch (all_moved v ms)) moved in
     attempt_base f.graph.now c.requires.field.graph (scale_of f.by) f.first.now c.args.group.now c.args.lifted.now c.args.vector s.sketch s.weight c.requires.off room (l.rest + c.aparts_after-aparts.result) c.least_gains-ahead.result base_is ahead_is ∙ ap (sketch_weight (scale_of f.by) f.graph.now f.first.now) (sym stood)
+
+pub lay_all-requires-clause-each : goal.lay_all-requires-clause-each
+lay_all-requires-clause-each c = ap length c.deref-2.ensures.value ∙ c.requires.off.lifted.each ∙ ap length (sym c.as_slice-runs.ensures)
+
+pub lay_all-requires-clause-small : goal.lay_all-requires-clause-small
+lay_all-requires-clause-small c = subst (All IsSmallLeast) (sym c.deref-2.ensures.value) c.requires.off.lifted.small
 
 pub lay_all-requires-clause-bounds : goal.lay_all-requires-clause-bounds
 lay_all-requires-clause-bounds c =
