@@ -1,6 +1,7 @@
 -- What each step of a run wants that is laid along the walk that was found.
 use Rattle.std.proofs.Common.{◌≡◌, sym, ◌∙◌, ap, ap₂, subst, ℕ, ◌+◌, ◌<◌, ◌≤◌, Bool, true, nat_le, nat_lt, List, length, drop, get_or, map, Some, arith}
 use Rattle.std.proofs.lemmas.List.{drop_all}
+use Rattle.std.proofs.lemmas.List.FromFn.{length-map-range_with_len}
 use Rattle.std.specs.List.{list_all, range_with_len}
 use Rattle.map_base.specs.declared.ids.NodeId.{NodeId}
 use Rattle.graph_core.specs.declared.parts.GraphParts.{GraphParts}
@@ -50,6 +51,9 @@ module _ (graph : GraphParts) (fit : IsConsistent graph) (k : Sketch) (h : IsLeg
 
   abbrev cut : ℕ → ℕ
   cut i = cut_place (points_of w) count i
+
+  pub cuts_many : length cs ≡ length c.steps + 1
+  cuts_many = ap length by.cuts ∙ length-map-range_with_len (cut_place (points_of w) (length c.steps)) 0 (length c.steps + 1)
 
   pub run_begins : IsLayingFrom graph c.from c.steps pieces 0 k (last_seg_of c) (end_of c).0
   run_begins = laying_begins graph fit k h c run free most w by.found by.enough

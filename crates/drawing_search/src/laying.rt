@@ -123,7 +123,8 @@ impl Sketch {
         requires inside { list_all (contains self.old.bounds) track.now.points.items ≡ true }
         ensures { OnOk result (self.new ≡ with_walk_of self.old seg (Some (from_low graph.now seg from (piece_along track.now.points.items track.now.steps.items start end)))) }
     {
-        let is_forward = graph.ends(seg).0 == from;
+        let low = graph.ends(seg).0;
+        let is_forward = low.0 == from.0;
         let piece = track.piece_by(alloc, start, end, is_forward)?;
         self.put_walk(seg, piece);
         Ok(())

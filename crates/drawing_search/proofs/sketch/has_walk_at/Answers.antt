@@ -26,8 +26,8 @@ passed f items i h e = at_drop_more (list_any f) items i none h ∙ ap (λ b. b 
 pub loop-s-init : goal.loop-s-init
 loop-s-init c = ap (list_any (has c.args.walks.now)) (sym (read_at c.args.graph.now.rounds c.args.n.0 c.round-s-items.result.now [] c.round-s-items.ensures))
 
-pub index-requires : goal.index-requires
-index-requires c =
+pub bounds-walks-s : goal.bounds-walks-s
+bounds-walks-s c =
     let items = c.round-s-items.result.now in
     let same : get_or c.args.graph.now.rounds c.args.n.0 [] ≡ items = read_at c.args.graph.now.rounds c.args.n.0 items [] c.round-s-items.ensures in
     omega (arith, round_within c.args.graph.now c.requires.graph c.args.n.0 c.requires.node items same c.loop-s.s-index none c.loop-s-test.true, c.requires.walks)

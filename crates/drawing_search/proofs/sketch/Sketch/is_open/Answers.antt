@@ -1,16 +1,20 @@
-use Rattle.std.proofs.Common.{◌≡◌, sym, ◌∙◌, ap, ap₂, subst, true, ◌&&◌, not}
+use Rattle.std.proofs.Common.{◌≡◌, sym, ◌∙◌, ap, ap₂, subst, true, ◌&&◌, ◌≤◌, not, arith}
 use Rattle.octi_grid.specs.declared.point.GridPoint.{GridPoint}
 use Rattle.octi_grid.specs.Ways.{doubled}
 use Rattle.grid_board.specs.declared.bounds.Bounds.{Bounds}
 use Rattle.grid_board.specs.Boards.{contains, doubled_bounds, parts_of, BoardParts}
 use Rattle.grid_board.proofs.Ways.{doubled_inside}
 use Rattle.run_laying.specs.Laying.{board_of}
+use Rattle.drawing_search.proofs.RunReads.{near_x, near_y}
 use Rattle.drawing_search.proofs.sketch.Sketch.is_open.Goals as goal
 
 pub is_node-requires : goal.is_node-requires
 is_node-requires c =
     let p = c.args.p in
     ap (λ (b : Bounds). contains b p) (sym c.bounds.ensures.value) ∙ sym c.contains.ensures ∙ c.if-not-contains.false
+
+pub doubled-requires : goal.doubled-requires
+doubled-requires c = record { across = omega (arith, near_x 3000 c.args.p c.requires); along = omega (arith, near_y 3000 c.args.p c.requires) }
 
 pub is_taken-requires : goal.is_taken-requires
 is_taken-requires c =

@@ -14,7 +14,7 @@ use Rattle.drawing_search.proofs.FewSteps.{run_few}
 use Rattle.drawing_search.proofs.Laid.{cuts_none, none_laid, uncut_laid}
 use Rattle.drawing_search.proofs.LaySteps.{few_points, first_even, some_points}
 use Rattle.drawing_search.proofs.RunReads.{no_step}
-use Rattle.drawing_search.proofs.RunSteps.{cut_run, further_left, rest_further, run_begins, run_ends, run_even, run_inside, run_order, run_within, stands_here, step_here}
+use Rattle.drawing_search.proofs.RunSteps.{cut_run, cuts_many, further_left, rest_further, run_begins, run_ends, run_even, run_inside, run_order, run_within, stands_here, step_here}
 use Rattle.drawing_search.proofs.sketch.Sketch.lay.Goals as goal
 
 abbrev no_walk : PlainWalk
@@ -63,6 +63,22 @@ loop-i-init c =
     cut_run c.args.graph.now c.args.self.now c.args.run.now c.args.most c.in-Some.walk c.in_ok-track.track.points.items c.in_ok-track.track.steps.items c.in-Some-2.cuts.items c.as_slice-steps.result.now
     (sym c.in-Some.is ∙ c.in_ok-walk.ensures) c.in_ok-track.ensures.points c.in_ok-track.ensures.steps c.in_ok-track.ensures.track c.as_slice-steps.ensures (sym (ap (option_map vec_items) c.in-Some-2.is) ∙ c.in_ok-cuts.ensures) in
     record { bounds = refl; rest = refl; left = λ some. run_begins c.args.graph.now c.requires.graph c.args.self.now c.requires.legal c.args.run.now c.requires.run c.requires.free c.args.most c.in-Some.walk c.in_ok-track.track.points.items c.in_ok-track.track.steps.items c.in-Some-2.cuts.items by }
+
+pub index-requires : goal.index-requires
+index-requires c =
+    let by =
+    cut_run c.args.graph.now c.args.self.now c.args.run.now c.args.most c.in-Some.walk c.in_ok-track.track.points.items c.in_ok-track.track.steps.items c.in-Some-2.cuts.items c.as_slice-steps.result.now
+    (sym c.in-Some.is ∙ c.in_ok-walk.ensures) c.in_ok-track.ensures.points c.in_ok-track.ensures.steps c.in_ok-track.ensures.track c.as_slice-steps.ensures (sym (ap (option_map vec_items) c.in-Some-2.is) ∙ c.in_ok-cuts.ensures) in
+    let many = cuts_many c.args.graph.now c.requires.graph c.args.self.now c.requires.legal c.args.run.now c.requires.run c.requires.free c.args.most c.in-Some.walk c.in_ok-track.track.points.items c.in_ok-track.track.steps.items c.in-Some-2.cuts.items by in
+    omega (arith, many, c.loop-i-test.true, ap length c.as_slice-steps.ensures, c.in-Some-2.cuts.ok.0)
+
+pub index-requires-2 : goal.index-requires-2
+index-requires-2 c =
+    let by =
+    cut_run c.args.graph.now c.args.self.now c.args.run.now c.args.most c.in-Some.walk c.in_ok-track.track.points.items c.in_ok-track.track.steps.items c.in-Some-2.cuts.items c.as_slice-steps.result.now
+    (sym c.in-Some.is ∙ c.in_ok-walk.ensures) c.in_ok-track.ensures.points c.in_ok-track.ensures.steps c.in_ok-track.ensures.track c.as_slice-steps.ensures (sym (ap (option_map vec_items) c.in-Some-2.is) ∙ c.in_ok-cuts.ensures) in
+    let many = cuts_many c.args.graph.now c.requires.graph c.args.self.now c.requires.legal c.args.run.now c.requires.run c.requires.free c.args.most c.in-Some.walk c.in_ok-track.track.points.items c.in_ok-track.track.steps.items c.in-Some-2.cuts.items by in
+    omega (arith, many, c.loop-i-test.true, ap length c.as_slice-steps.ensures, c.in-Some-2.cuts.ok.0)
 
 pub lay_step-requires-clause-segment : goal.lay_step-requires-clause-segment
 lay_step-requires-clause-segment c =

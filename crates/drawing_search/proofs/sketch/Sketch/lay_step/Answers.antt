@@ -13,6 +13,9 @@ use Rattle.drawing_search.proofs.Laid.{piece_kept, piece_stood}
 use Rattle.drawing_search.proofs.Steps.{long, piece_end}
 use Rattle.drawing_search.proofs.sketch.Sketch.lay_step.Goals as goal
 
+pub index-requires : goal.index-requires
+index-requires c = omega (arith, long c.args.track.now.points.items c.args.track.now.steps.items c.requires.track, c.requires.within, c.args.track.now.points.ok.0)
+
 pub stand-requires-clause-node : goal.stand-requires-clause-node
 stand-requires-clause-node c = omega (arith, ap (λ (k : Sketch). length k.points) c.in_ok-lay_piece.ensures, c.requires.legal.points_each, c.requires.node)
 

@@ -1,9 +1,19 @@
-use Rattle.std.proofs.Common.{◌≡◌, ◌∙◌, ap}
+use Rattle.std.proofs.Common.{◌≡◌, ◌∙◌, ◌<◌, length, ap, arith}
 use Rattle.octi_grid.specs.declared.point.GridPoint.{GridPoint}
 use Rattle.grid_board.specs.Boards.{contains, parts_of, without_node}
+use Rattle.run_laying.specs.Laying.{Sketch}
 use Rattle.run_laying.specs.Sketches.{point_of_node}
+use Rattle.run_laying.proofs.Shown.{stands_below}
 use Rattle.drawing_search.proofs.OnSketches.{inside_kept, lifted_shown, lifted_view}
 use Rattle.drawing_search.proofs.sketch.Sketch.lift.Goals as goal
+
+pub point-at-requires : goal.point-at-requires
+point-at-requires c = omega (arith, stands_below c.args.graph.now c.args.self.now c.requires.legal c.args.n.0 c.requires.stands, c.requires.legal.points_each)
+
+pub index_mut-requires : goal.index_mut-requires
+index_mut-requires c =
+    let k = c.args.self.now in
+    omega (arith, stands_below c.args.graph.now k c.requires.legal c.args.n.0 c.requires.stands, c.requires.legal.stand_each, ap (λ (j : Sketch). length j.stand) c.self.view_is, c.self.inside.stand.ok.0)
 
 pub remove_node-requires : goal.remove_node-requires
 remove_node-requires c =
