@@ -147,8 +147,8 @@ impl Search {
         let aparts = aparts_after(field, moved, vector);
         let base = lifted.rest + aparts;
         let ahead = self.least_gains(runs, &lifted.least, moved, vector);
-        let whole = base.saturating_add(ahead);
-        if whole >= self.weight {
+        let at_least = base.saturating_add(ahead);
+        if at_least >= self.weight {
             return Ok(None);
         }
         self.stand_moved(moved, vector);

@@ -90,8 +90,8 @@ least_gains-requires-clause-each c = ap length c.deref.ensures.value ∙ c.requi
 pub least_gains-requires-clause-small : goal.least_gains-requires-clause-small
 least_gains-requires-clause-small c = subst (All IsSmallLeast) (sym c.deref.ensures.value) c.requires.off.lifted.small
 
-pub returns-then-whole-self-clause-attempted : goal.returns-then-whole-self-clause-attempted
-returns-then-whole-self-clause-attempted c =
+pub returns-then-at_least-self-clause-attempted : goal.returns-then-at_least-self-clause-attempted
+returns-then-at_least-self-clause-attempted c =
     let f = c.args.field in
     let s = c.args.self.now in
     let l = c.args.lifted.now in
@@ -106,7 +106,7 @@ returns-then-whole-self-clause-attempted c =
     c.least_gains-ahead.ensures
     ∙ ap (λ (ms : List (NodeId × GridPoint)). min 18446744073709551615 (gains_at_least (point_after s.sketch v ms) c.as_slice-runs.result.now c.deref.result.now)) moved
     ∙ ap₂ (λ (cs : List Chain) (ls : List LeastTurns). min 18446744073709551615 (gains_at_least (point_after s.sketch v l.moved.items) cs ls)) c.as_slice-runs.ensures c.deref.ensures.value in
-    attempt_heavy f.graph.now c.requires.field.graph (scale_of f.by) f.first.now c.args.group.now c.args.lifted.now c.args.vector s.sketch s.weight c.requires.off room (l.rest + c.aparts_after-aparts.result) c.least_gains-ahead.result base_is ahead_is (omega (arith, c.saturating_add-whole.ensures, c.if-whole-self.true))
+    attempt_heavy f.graph.now c.requires.field.graph (scale_of f.by) f.first.now c.args.group.now c.args.lifted.now c.args.vector s.sketch s.weight c.requires.off room (l.rest + c.aparts_after-aparts.result) c.least_gains-ahead.result base_is ahead_is (omega (arith, c.saturating_add-at_least.ensures, c.if-at_least-self.true))
 
 pub stand_moved-requires-clause-near : goal.stand_moved-requires-clause-near
 stand_moved-requires-clause-near c =
@@ -193,7 +193,7 @@ lay_all-requires-clause-ahead c =
     ∙ ap (λ (ms : List (NodeId × GridPoint)). min 18446744073709551615 (gains_at_least (point_after s.sketch v ms) c.as_slice-runs.result.now c.deref.result.now)) moved
     ∙ ap₂ (λ (cs : List Chain) (ls : List LeastTurns). min 18446744073709551615 (gains_at_least (point_after s.sketch v l.moved.items) cs ls)) c.as_slice-runs.ensures c.deref.ensures.value in
     let stood = c.stand_moved.ensures.sketch ∙ ap (λ (ms : List (NodeId × GridPoint)). fold stood_at s.sketch (all_moved v ms)) moved in
-    (attempt_ahead f.graph.now c.requires.field.graph (scale_of f.by) f.first.now c.args.group.now c.args.lifted.now c.args.vector s.sketch s.weight c.requires.off room (l.rest + c.aparts_after-aparts.result) c.least_gains-ahead.result base_is ahead_is (omega (arith, c.saturating_add-whole.ensures, c.if-whole-self.false))).0
+    (attempt_ahead f.graph.now c.requires.field.graph (scale_of f.by) f.first.now c.args.group.now c.args.lifted.now c.args.vector s.sketch s.weight c.requires.off room (l.rest + c.aparts_after-aparts.result) c.least_gains-ahead.result base_is ahead_is (omega (arith, c.saturating_add-at_least.ensures, c.if-at_least-self.false))).0
     ∙ ap (λ (j : Sketch). gains_at_least (λ (n : NodeId). point_of_node j n.0) c.args.group.now.runs l.least.items) (sym stood)
     ∙ ap₂ (λ (cs : List Chain) (ls : List LeastTurns). gains_at_least (λ (n : NodeId). point_of_node c.stand_moved.new.self.sketch n.0) cs ls) (sym c.as_slice-runs.ensures) (sym c.deref-2.ensures.value)
 
@@ -213,7 +213,7 @@ lay_all-requires-clause-less c =
     c.least_gains-ahead.ensures
     ∙ ap (λ (ms : List (NodeId × GridPoint)). min 18446744073709551615 (gains_at_least (point_after s.sketch v ms) c.as_slice-runs.result.now c.deref.result.now)) moved
     ∙ ap₂ (λ (cs : List Chain) (ls : List LeastTurns). min 18446744073709551615 (gains_at_least (point_after s.sketch v l.moved.items) cs ls)) c.as_slice-runs.ensures c.deref.ensures.value in
-    let less = (attempt_ahead f.graph.now c.requires.field.graph (scale_of f.by) f.first.now c.args.group.now c.args.lifted.now c.args.vector s.sketch s.weight c.requires.off room (l.rest + c.aparts_after-aparts.result) c.least_gains-ahead.result base_is ahead_is (omega (arith, c.saturating_add-whole.ensures, c.if-whole-self.false))).1 in
+    let less = (attempt_ahead f.graph.now c.requires.field.graph (scale_of f.by) f.first.now c.args.group.now c.args.lifted.now c.args.vector s.sketch s.weight c.requires.off room (l.rest + c.aparts_after-aparts.result) c.least_gains-ahead.result base_is ahead_is (omega (arith, c.saturating_add-at_least.ensures, c.if-at_least-self.false))).1 in
     omega (arith, less, c.stand_moved.ensures.weight)
 
 pub lay_all-requires-clause-weight : goal.lay_all-requires-clause-weight

@@ -36,8 +36,7 @@ returns-then-not-branch-clause-laid c =
     let most = c.walk_limit-most.result in
     let none = subst (λ (b : Bool). IsLaid (laid_within f.graph.now most c.args.run.now k) k c.lay.new.self b) c.if-not-branch.true c.in_ok-lay.ensures.laid in
     let to = c.point-to.ensures ∙ ap (λ (n : NodeId). point_of_node k n.0) c.end-end.ensures in
-    let limit = c.walk_limit-most.ensures.value ∙ ap₂ (λ (p q : GridPoint). limit_between c.args.least (w - 1 - c.args.weight - c.args.ahead) p q) c.point-from.ensures to in
-    (
+    let limit = c.walk_limit-most.ensures.value ∙ ap₂ (λ (p q : GridPoint). limit_between c.args.least (w - 1 - c.args.weight - c.args.ahead) p q) c.point-from.ensures to in (
       subst (λ (j : Sketch). AreAlike j k) (sym none.1) (alike_self k),
       one_fails f.graph.now c.requires.field.graph c.args.run.now k c.requires.legal c.requires.run c.requires.free (scale_of f.by) f.first.now c.args.least c.requires.bound w c.args.weight c.args.ahead most (omega (arith, c.requires.room)) limit none.0,
     )
@@ -72,8 +71,7 @@ returns-then-whole-self-clause-laid c =
     let f = c.args.field in
     let k = c.args.self.now.sketch in
     let mid = c.lay.new.self in
-    let there : laid f.graph.now c.args.run.now k ≡ Some mid = laid_from_within f.graph.now c.walk_limit-most.result c.args.run.now k mid (subst (λ (b : Bool). IsLaid (laid_within f.graph.now c.walk_limit-most.result c.args.run.now k) k mid b) c.if-not-branch.false c.in_ok-lay.ensures.laid) in
-    (
+    let there : laid f.graph.now c.args.run.now k ≡ Some mid = laid_from_within f.graph.now c.walk_limit-most.result c.args.run.now k mid (subst (λ (b : Bool). IsLaid (laid_within f.graph.now c.walk_limit-most.result c.args.run.now k) k mid b) c.if-not-branch.false c.in_ok-lay.ensures.laid) in (
       subst (λ (j : Sketch). AreAlike j k) (sym c.take_run.ensures) (one_back f.graph.now c.requires.field.graph c.args.run.now k c.requires.legal c.requires.run c.requires.free mid there),
       one_heavy f.graph.now c.requires.field.graph c.args.run.now k c.requires.legal c.requires.run c.requires.free mid there (scale_of f.by) f.first.now c.args.self.now.weight c.args.weight c.args.ahead (omega (arith, c.run_gain-gain.ensures.gain, c.if-whole-self.true)),
     )
