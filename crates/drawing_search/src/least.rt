@@ -195,12 +195,10 @@ impl<'a> Field<'a> {
         ensures price { result ≡ turn_price (scale_of self.entry.by) self.entry.graph.now steps.now }
         ensures small { result ≤ 101 }
     {
-        let count = steps.len();
-        if count == 1 {
+        if steps.len() == 1 {
             return 1 + self.by.turns;
         }
-        let free = self.free_nodes(steps);
-        if free != 0 {
+        if self.free_nodes(steps) != 0 {
             return 0;
         }
         self.by.overs.min(1 + self.by.turns)
