@@ -57,7 +57,7 @@ module _ (graph : GraphParts) (fit : IsConsistent graph) (c : Chain) (k : Sketch
     one_legal = (on mid there).legal
 
     so_far : IsSoFar (c ∷ []) k mid
-    so_far = one_more_so_far graph fit [] c k mid h run clear (on mid there) (none_so_far k)
+    so_far = one_more_so_far graph fit [] c k k mid h run clear (on mid there) (none_so_far k)
 
     pub one_inner : All (λ (m : NodeId). is_standing mid m.0 ≡ true) (inner_nodes c.steps)
     one_inner = λ j x below. so_far.inner c (inl refl) (get_or (inner_nodes c.steps) j x) (in_at (inner_nodes c.steps) j x below)
