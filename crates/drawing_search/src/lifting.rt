@@ -56,13 +56,15 @@ pub(crate) fn lift(
     };
     for run in runs {
         let gain = field.run_gain(sketch, run);
-        lifted.rest -= gain;
+        let rest = lifted.rest - gain;
+        lifted.rest = rest;
         lift_run(field, sketch, run, &mut lifted)?;
     }
     for n in nodes {
         let at = sketch.point(*n);
         let apart = field.apart_weight(*n, at);
-        lifted.rest -= apart;
+        let left = lifted.rest - apart;
+        lifted.rest = left;
         sketch.lift(field.graph, *n);
         lifted.moved.push((*n, at))?;
     }

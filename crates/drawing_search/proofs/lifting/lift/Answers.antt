@@ -74,8 +74,8 @@ run_gain-gain-requires-clause-inner c =
     let is : r ≡ get_or g.runs i r = item_of rs g.runs i r c.as_slice-runs.ensures c.run-item.is in
     takable_stands f.graph.now k r (subst (IsTakable f.graph.now k) (sym is) (run_ready f.graph.now c.requires.field.graph c.args.sketch.now s.legal s.whole g.nodes g.runs (group_is f.graph.now g c.requires.fitting c.requires.apart) (scale_of f.by) f.first.now i r below k l c.loop-run.invariant))
 
-pub overflow_sub-lifted : goal.overflow_sub-lifted
-overflow_sub-lifted c =
+pub overflow_sub-rest : goal.overflow_sub-rest
+overflow_sub-rest c =
     let f = c.args.field in
     let g = c.args.group.now in
     let s = c.requires.settled in
@@ -174,8 +174,8 @@ apart_weight-apart-requires-clause-near c =
     let is : get_or ns i none ≡ get_or g.nodes i none = ap (λ (v : List NodeId). get_or v i none) c.as_slice-nodes.ensures in
     ap (is_near 2000) (c.point-at.ensures ∙ ap (λ (n : NodeId). point_of_node k n.0) is) ∙ node_near f.graph.now c.requires.field.graph c.args.sketch.now s.legal s.whole g.nodes g.runs (group_is f.graph.now g c.requires.fitting c.requires.apart) (scale_of f.by) f.first.now i none below k l c.loop-n.invariant
 
-pub overflow_sub-lifted-2 : goal.overflow_sub-lifted-2
-overflow_sub-lifted-2 c =
+pub overflow_sub-left : goal.overflow_sub-left
+overflow_sub-left c =
     let f = c.args.field in
     let g = c.args.group.now in
     let s = c.requires.settled in
