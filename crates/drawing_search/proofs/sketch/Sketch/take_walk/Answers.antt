@@ -24,8 +24,8 @@ take_at-requires c =
     omega (arith, there, c.requires.segment, c.requires.legal.walks_each)
 
 -- a segment without a walk stays as it is
-pub invariant_of-self-in_err-walk : goal.invariant_of-self-in_err-walk
-invariant_of-self-in_err-walk c =
+pub invariant_of-self : goal.invariant_of-self
+invariant_of-self c =
     let s = c.self.inside in
     let k = c.args.self.now in
     let none : walk_in k c.args.s ≡ None = ap (λ (j : Sketch). walk_in j c.args.s) (sym c.self.view_is) ∙ sym c.in_err-walk.ensures.walk in
@@ -97,8 +97,8 @@ remove_walk-requires-clause-board c =
     subst IsBoard (sym (ap₂ (λ (x y : Bool). without_walk (parts_of s.board) w x y) low up))
     (freed_board s.board s.points.items s.stand.items s.walks.items k c.self.invariant c.self.view_is g c.requires.graph c.requires.legal c.args.s w has c.requires.segment)
 
-pub invariant_of-self : goal.invariant_of-self
-invariant_of-self c =
+pub invariant_of-self-2 : goal.invariant_of-self-2
+invariant_of-self-2 c =
     let s = c.self.inside in
     let k = c.args.self.now in
     let g = c.args.graph.now in
