@@ -284,7 +284,7 @@ loop-chain-preserved c =
     let below : i < length g.runs = subst (λ (v : List Chain). i < length v) c.as_slice-runs.ensures c.loop-chain-test.true in
     let is : r ≡ get_or g.runs i r = item_of rs g.runs i r c.as_slice-runs.ensures c.chain-item.is in
     least_more f.graph.now c.requires.field.graph c.args.sketch.now s.legal s.whole g.nodes g.runs (group_is f.graph.now g c.requires.fitting c.requires.apart) (scale_of f.by) f.first.now i r k l _ c.in_ok-least.least below c.loop-chain.invariant (subst (λ (x : Chain). IsLeastOf (scale_of f.by) f.graph.now k x c.in_ok-least.least) is c.in_ok-least.ensures.least) c.in_ok-least.ensures.small
-    refl refl refl refl c.in_ok-push-in-loop-chain.ensures.items
+    refl refl refl refl c.in_ok-push-2.ensures.items
 
 pub returns : goal.returns
 returns c =

@@ -72,8 +72,8 @@ index-requires c =
     let many = cuts_many c.args.graph.now c.requires.graph c.args.self.now c.requires.legal c.args.run.now c.requires.run c.requires.free c.args.most c.in-Some.walk c.in_ok-track.track.points.items c.in_ok-track.track.steps.items c.in-Some-2.cuts.items by in
     omega (arith, many, c.loop-i-test.true, ap length c.as_slice-steps.ensures, c.in-Some-2.cuts.ok.0)
 
-pub index-requires-2 : goal.index-requires-2
-index-requires-2 c =
+pub index-requires-in-loop-i : goal.index-requires-in-loop-i
+index-requires-in-loop-i c =
     let by =
     cut_run c.args.graph.now c.args.self.now c.args.run.now c.args.most c.in-Some.walk c.in_ok-track.track.points.items c.in_ok-track.track.steps.items c.in-Some-2.cuts.items c.as_slice-steps.result.now
     (sym c.in-Some.is ∙ c.in_ok-walk.ensures) c.in_ok-track.ensures.points c.in_ok-track.ensures.steps c.in_ok-track.ensures.track c.as_slice-steps.ensures (sym (ap (option_map vec_items) c.in-Some-2.is) ∙ c.in_ok-cuts.ensures) in
@@ -86,7 +86,7 @@ lay_step-requires-clause-segment c =
     cut_run c.args.graph.now c.args.self.now c.args.run.now c.args.most c.in-Some.walk c.in_ok-track.track.points.items c.in_ok-track.track.steps.items c.in-Some-2.cuts.items c.as_slice-steps.result.now
     (sym c.in-Some.is ∙ c.in_ok-walk.ensures) c.in_ok-track.ensures.points c.in_ok-track.ensures.steps c.in_ok-track.ensures.track c.as_slice-steps.ensures (sym (ap (option_map vec_items) c.in-Some-2.is) ∙ c.in_ok-cuts.ensures) in
     let below : c.loop-i.i < length c.args.run.now.steps = omega (arith, c.loop-i-test.true, ap length c.as_slice-steps.ensures) in
-    (step_here c.args.graph.now c.requires.graph c.args.self.now c.requires.legal c.args.run.now c.requires.run c.requires.free c.args.most c.in-Some.walk c.in_ok-track.track.points.items c.in_ok-track.track.steps.items c.in-Some-2.cuts.items by c.loop-i.i c.index.result.now c.index-2.result.now c.index.result.now c.index-2.result.now below c.index.ensures c.index-2.ensures c.loop-i.at c.loop-i.self (c.loop-i.invariant.left below) no_step no_walk (nat_lt (c.loop-i.i + 1) (length c.as_slice-steps.result.now)) (ap (λ (ts : List ChainStep). nat_lt (c.loop-i.i + 1) (length ts)) c.as_slice-steps.ensures)).segment
+    (step_here c.args.graph.now c.requires.graph c.args.self.now c.requires.legal c.args.run.now c.requires.run c.requires.free c.args.most c.in-Some.walk c.in_ok-track.track.points.items c.in_ok-track.track.steps.items c.in-Some-2.cuts.items by c.loop-i.i c.index.result.now c.index-in-loop-i.result.now c.index.result.now c.index-in-loop-i.result.now below c.index.ensures c.index-in-loop-i.ensures c.loop-i.at c.loop-i.self (c.loop-i.invariant.left below) no_step no_walk (nat_lt (c.loop-i.i + 1) (length c.as_slice-steps.result.now)) (ap (λ (ts : List ChainStep). nat_lt (c.loop-i.i + 1) (length ts)) c.as_slice-steps.ensures)).segment
 
 pub lay_step-requires-clause-node : goal.lay_step-requires-clause-node
 lay_step-requires-clause-node c =
@@ -94,7 +94,7 @@ lay_step-requires-clause-node c =
     cut_run c.args.graph.now c.args.self.now c.args.run.now c.args.most c.in-Some.walk c.in_ok-track.track.points.items c.in_ok-track.track.steps.items c.in-Some-2.cuts.items c.as_slice-steps.result.now
     (sym c.in-Some.is ∙ c.in_ok-walk.ensures) c.in_ok-track.ensures.points c.in_ok-track.ensures.steps c.in_ok-track.ensures.track c.as_slice-steps.ensures (sym (ap (option_map vec_items) c.in-Some-2.is) ∙ c.in_ok-cuts.ensures) in
     let below : c.loop-i.i < length c.args.run.now.steps = omega (arith, c.loop-i-test.true, ap length c.as_slice-steps.ensures) in
-    (step_here c.args.graph.now c.requires.graph c.args.self.now c.requires.legal c.args.run.now c.requires.run c.requires.free c.args.most c.in-Some.walk c.in_ok-track.track.points.items c.in_ok-track.track.steps.items c.in-Some-2.cuts.items by c.loop-i.i c.index.result.now c.index-2.result.now c.index.result.now c.index-2.result.now below c.index.ensures c.index-2.ensures c.loop-i.at c.loop-i.self (c.loop-i.invariant.left below) no_step no_walk (nat_lt (c.loop-i.i + 1) (length c.as_slice-steps.result.now)) (ap (λ (ts : List ChainStep). nat_lt (c.loop-i.i + 1) (length ts)) c.as_slice-steps.ensures)).node
+    (step_here c.args.graph.now c.requires.graph c.args.self.now c.requires.legal c.args.run.now c.requires.run c.requires.free c.args.most c.in-Some.walk c.in_ok-track.track.points.items c.in_ok-track.track.steps.items c.in-Some-2.cuts.items by c.loop-i.i c.index.result.now c.index-in-loop-i.result.now c.index.result.now c.index-in-loop-i.result.now below c.index.ensures c.index-in-loop-i.ensures c.loop-i.at c.loop-i.self (c.loop-i.invariant.left below) no_step no_walk (nat_lt (c.loop-i.i + 1) (length c.as_slice-steps.result.now)) (ap (λ (ts : List ChainStep). nat_lt (c.loop-i.i + 1) (length ts)) c.as_slice-steps.ensures)).node
 
 pub lay_step-requires-clause-free : goal.lay_step-requires-clause-free
 lay_step-requires-clause-free c =
@@ -102,7 +102,7 @@ lay_step-requires-clause-free c =
     cut_run c.args.graph.now c.args.self.now c.args.run.now c.args.most c.in-Some.walk c.in_ok-track.track.points.items c.in_ok-track.track.steps.items c.in-Some-2.cuts.items c.as_slice-steps.result.now
     (sym c.in-Some.is ∙ c.in_ok-walk.ensures) c.in_ok-track.ensures.points c.in_ok-track.ensures.steps c.in_ok-track.ensures.track c.as_slice-steps.ensures (sym (ap (option_map vec_items) c.in-Some-2.is) ∙ c.in_ok-cuts.ensures) in
     let below : c.loop-i.i < length c.args.run.now.steps = omega (arith, c.loop-i-test.true, ap length c.as_slice-steps.ensures) in
-    (step_here c.args.graph.now c.requires.graph c.args.self.now c.requires.legal c.args.run.now c.requires.run c.requires.free c.args.most c.in-Some.walk c.in_ok-track.track.points.items c.in_ok-track.track.steps.items c.in-Some-2.cuts.items by c.loop-i.i c.index.result.now c.index-2.result.now c.index.result.now c.index-2.result.now below c.index.ensures c.index-2.ensures c.loop-i.at c.loop-i.self (c.loop-i.invariant.left below) no_step no_walk (nat_lt (c.loop-i.i + 1) (length c.as_slice-steps.result.now)) (ap (λ (ts : List ChainStep). nat_lt (c.loop-i.i + 1) (length ts)) c.as_slice-steps.ensures)).free
+    (step_here c.args.graph.now c.requires.graph c.args.self.now c.requires.legal c.args.run.now c.requires.run c.requires.free c.args.most c.in-Some.walk c.in_ok-track.track.points.items c.in_ok-track.track.steps.items c.in-Some-2.cuts.items by c.loop-i.i c.index.result.now c.index-in-loop-i.result.now c.index.result.now c.index-in-loop-i.result.now below c.index.ensures c.index-in-loop-i.ensures c.loop-i.at c.loop-i.self (c.loop-i.invariant.left below) no_step no_walk (nat_lt (c.loop-i.i + 1) (length c.as_slice-steps.result.now)) (ap (λ (ts : List ChainStep). nat_lt (c.loop-i.i + 1) (length ts)) c.as_slice-steps.ensures)).free
 
 pub lay_step-requires-clause-legal : goal.lay_step-requires-clause-legal
 lay_step-requires-clause-legal c = (c.loop-i.invariant.left (omega (arith, c.loop-i-test.true, ap length c.as_slice-steps.ensures))).laying.legal
@@ -113,7 +113,7 @@ lay_step-requires-clause-to c =
     cut_run c.args.graph.now c.args.self.now c.args.run.now c.args.most c.in-Some.walk c.in_ok-track.track.points.items c.in_ok-track.track.steps.items c.in-Some-2.cuts.items c.as_slice-steps.result.now
     (sym c.in-Some.is ∙ c.in_ok-walk.ensures) c.in_ok-track.ensures.points c.in_ok-track.ensures.steps c.in_ok-track.ensures.track c.as_slice-steps.ensures (sym (ap (option_map vec_items) c.in-Some-2.is) ∙ c.in_ok-cuts.ensures) in
     let below : c.loop-i.i < length c.args.run.now.steps = omega (arith, c.loop-i-test.true, ap length c.as_slice-steps.ensures) in
-    stands_here c.args.graph.now c.requires.graph c.args.self.now c.requires.legal c.args.run.now c.requires.run c.requires.free c.args.most c.in-Some.walk c.in_ok-track.track.points.items c.in_ok-track.track.steps.items c.in-Some-2.cuts.items by c.loop-i.i c.index.result.now c.index-2.result.now c.index.result.now c.index-2.result.now below c.index.ensures c.index-2.ensures c.loop-i.at c.loop-i.self (c.loop-i.invariant.left below) no_step no_walk (nat_lt (c.loop-i.i + 1) (length c.as_slice-steps.result.now)) (ap (λ (ts : List ChainStep). nat_lt (c.loop-i.i + 1) (length ts)) c.as_slice-steps.ensures)
+    stands_here c.args.graph.now c.requires.graph c.args.self.now c.requires.legal c.args.run.now c.requires.run c.requires.free c.args.most c.in-Some.walk c.in_ok-track.track.points.items c.in_ok-track.track.steps.items c.in-Some-2.cuts.items by c.loop-i.i c.index.result.now c.index-in-loop-i.result.now c.index.result.now c.index-in-loop-i.result.now below c.index.ensures c.index-in-loop-i.ensures c.loop-i.at c.loop-i.self (c.loop-i.invariant.left below) no_step no_walk (nat_lt (c.loop-i.i + 1) (length c.as_slice-steps.result.now)) (ap (λ (ts : List ChainStep). nat_lt (c.loop-i.i + 1) (length ts)) c.as_slice-steps.ensures)
 
 pub lay_step-requires-clause-track : goal.lay_step-requires-clause-track
 lay_step-requires-clause-track c = c.in_ok-track.ensures.track
@@ -124,7 +124,7 @@ lay_step-requires-clause-order c =
     cut_run c.args.graph.now c.args.self.now c.args.run.now c.args.most c.in-Some.walk c.in_ok-track.track.points.items c.in_ok-track.track.steps.items c.in-Some-2.cuts.items c.as_slice-steps.result.now
     (sym c.in-Some.is ∙ c.in_ok-walk.ensures) c.in_ok-track.ensures.points c.in_ok-track.ensures.steps c.in_ok-track.ensures.track c.as_slice-steps.ensures (sym (ap (option_map vec_items) c.in-Some-2.is) ∙ c.in_ok-cuts.ensures) in
     let below : c.loop-i.i < length c.args.run.now.steps = omega (arith, c.loop-i-test.true, ap length c.as_slice-steps.ensures) in
-    run_order c.args.graph.now c.requires.graph c.args.self.now c.requires.legal c.args.run.now c.requires.run c.requires.free c.args.most c.in-Some.walk c.in_ok-track.track.points.items c.in_ok-track.track.steps.items c.in-Some-2.cuts.items by c.loop-i.i c.index.result.now c.index-2.result.now c.index.result.now c.index-2.result.now below c.index.ensures c.index-2.ensures
+    run_order c.args.graph.now c.requires.graph c.args.self.now c.requires.legal c.args.run.now c.requires.run c.requires.free c.args.most c.in-Some.walk c.in_ok-track.track.points.items c.in_ok-track.track.steps.items c.in-Some-2.cuts.items by c.loop-i.i c.index.result.now c.index-in-loop-i.result.now c.index.result.now c.index-in-loop-i.result.now below c.index.ensures c.index-in-loop-i.ensures
 
 pub lay_step-requires-clause-within : goal.lay_step-requires-clause-within
 lay_step-requires-clause-within c =
@@ -132,7 +132,7 @@ lay_step-requires-clause-within c =
     cut_run c.args.graph.now c.args.self.now c.args.run.now c.args.most c.in-Some.walk c.in_ok-track.track.points.items c.in_ok-track.track.steps.items c.in-Some-2.cuts.items c.as_slice-steps.result.now
     (sym c.in-Some.is ∙ c.in_ok-walk.ensures) c.in_ok-track.ensures.points c.in_ok-track.ensures.steps c.in_ok-track.ensures.track c.as_slice-steps.ensures (sym (ap (option_map vec_items) c.in-Some-2.is) ∙ c.in_ok-cuts.ensures) in
     let below : c.loop-i.i < length c.args.run.now.steps = omega (arith, c.loop-i-test.true, ap length c.as_slice-steps.ensures) in
-    run_within c.args.graph.now c.requires.graph c.args.self.now c.requires.legal c.args.run.now c.requires.run c.requires.free c.args.most c.in-Some.walk c.in_ok-track.track.points.items c.in_ok-track.track.steps.items c.in-Some-2.cuts.items by c.loop-i.i c.index.result.now c.index-2.result.now c.index.result.now c.index-2.result.now below c.index.ensures c.index-2.ensures
+    run_within c.args.graph.now c.requires.graph c.args.self.now c.requires.legal c.args.run.now c.requires.run c.requires.free c.args.most c.in-Some.walk c.in_ok-track.track.points.items c.in_ok-track.track.steps.items c.in-Some-2.cuts.items by c.loop-i.i c.index.result.now c.index-in-loop-i.result.now c.index.result.now c.index-in-loop-i.result.now below c.index.ensures c.index-in-loop-i.ensures
 
 pub lay_step-requires-clause-even : goal.lay_step-requires-clause-even
 lay_step-requires-clause-even c =
@@ -140,7 +140,7 @@ lay_step-requires-clause-even c =
     cut_run c.args.graph.now c.args.self.now c.args.run.now c.args.most c.in-Some.walk c.in_ok-track.track.points.items c.in_ok-track.track.steps.items c.in-Some-2.cuts.items c.as_slice-steps.result.now
     (sym c.in-Some.is ∙ c.in_ok-walk.ensures) c.in_ok-track.ensures.points c.in_ok-track.ensures.steps c.in_ok-track.ensures.track c.as_slice-steps.ensures (sym (ap (option_map vec_items) c.in-Some-2.is) ∙ c.in_ok-cuts.ensures) in
     let below : c.loop-i.i < length c.args.run.now.steps = omega (arith, c.loop-i-test.true, ap length c.as_slice-steps.ensures) in
-    run_even c.args.graph.now c.requires.graph c.args.self.now c.requires.legal c.args.run.now c.requires.run c.requires.free c.args.most c.in-Some.walk c.in_ok-track.track.points.items c.in_ok-track.track.steps.items c.in-Some-2.cuts.items by c.loop-i.i c.index.result.now c.index-2.result.now c.index.result.now c.index-2.result.now below c.index.ensures c.index-2.ensures
+    run_even c.args.graph.now c.requires.graph c.args.self.now c.requires.legal c.args.run.now c.requires.run c.requires.free c.args.most c.in-Some.walk c.in_ok-track.track.points.items c.in_ok-track.track.steps.items c.in-Some-2.cuts.items by c.loop-i.i c.index.result.now c.index-in-loop-i.result.now c.index.result.now c.index-in-loop-i.result.now below c.index.ensures c.index-in-loop-i.ensures
 
 pub lay_step-requires-clause-inside : goal.lay_step-requires-clause-inside
 lay_step-requires-clause-inside c =
@@ -157,8 +157,8 @@ loop-i-preserved c =
     let below : c.loop-i.i < length c.args.run.now.steps = omega (arith, c.loop-i-test.true, ap length c.as_slice-steps.ensures) in
     record {
       bounds = ap (λ (k : Sketch). k.bounds) c.in_ok-lay_step.ensures ∙ c.loop-i.invariant.bounds;
-      rest = rest_further c.args.graph.now c.requires.graph c.args.self.now c.requires.legal c.args.run.now c.requires.run c.requires.free c.args.most c.in-Some.walk c.in_ok-track.track.points.items c.in_ok-track.track.steps.items c.in-Some-2.cuts.items by c.loop-i.i c.index.result.now c.index-2.result.now c.index.result.now c.index-2.result.now below c.index.ensures c.index-2.ensures c.loop-i.at c.loop-i.self (c.loop-i.invariant.left below) no_step no_walk c.lay_step.new.self c.in_ok-lay_step.ensures ∙ c.loop-i.invariant.rest;
-      left = λ more. further_left c.args.graph.now c.requires.graph c.args.self.now c.requires.legal c.args.run.now c.requires.run c.requires.free c.args.most c.in-Some.walk c.in_ok-track.track.points.items c.in_ok-track.track.steps.items c.in-Some-2.cuts.items by c.loop-i.i c.index.result.now c.index-2.result.now c.index.result.now c.index-2.result.now below c.index.ensures c.index-2.ensures c.loop-i.at c.loop-i.self (c.loop-i.invariant.left below) no_step no_walk c.lay_step.new.self c.in_ok-lay_step.ensures more;
+      rest = rest_further c.args.graph.now c.requires.graph c.args.self.now c.requires.legal c.args.run.now c.requires.run c.requires.free c.args.most c.in-Some.walk c.in_ok-track.track.points.items c.in_ok-track.track.steps.items c.in-Some-2.cuts.items by c.loop-i.i c.index.result.now c.index-in-loop-i.result.now c.index.result.now c.index-in-loop-i.result.now below c.index.ensures c.index-in-loop-i.ensures c.loop-i.at c.loop-i.self (c.loop-i.invariant.left below) no_step no_walk c.lay_step.new.self c.in_ok-lay_step.ensures ∙ c.loop-i.invariant.rest;
+      left = λ more. further_left c.args.graph.now c.requires.graph c.args.self.now c.requires.legal c.args.run.now c.requires.run c.requires.free c.args.most c.in-Some.walk c.in_ok-track.track.points.items c.in_ok-track.track.steps.items c.in-Some-2.cuts.items by c.loop-i.i c.index.result.now c.index-in-loop-i.result.now c.index.result.now c.index-in-loop-i.result.now below c.index.ensures c.index-in-loop-i.ensures c.loop-i.at c.loop-i.self (c.loop-i.invariant.left below) no_step no_walk c.lay_step.new.self c.in_ok-lay_step.ensures more;
     }
 
 pub returns-clause-laid : goal.returns-clause-laid
