@@ -42,7 +42,7 @@ impl Sketch {
         requires run { IsRun graph.now run.now }
         requires free { IsFreeFor self.old run.now }
         requires most { most < 2 ^ 63 }
-        ensures laid { IfOk result (λ is_laid. IsLaid (laid_within graph.now most run.now self.old) self.old self.new is_laid) }
+        ensures { IfOk result (λ is_laid. IsLaid (laid_within graph.now most run.now self.old) self.old self.new is_laid) }
     {
         let steps = run.steps.as_slice();
         let Some(walk) = self.run_walk(alloc, graph, run, most)? else {

@@ -107,7 +107,7 @@ fn lift_between(
     steps: &[ChainStep],
     lifted: &mut Lifted,
 ) -> Result<(), NoMemory>
-    requires liftable { AreLiftable field.graph.now sketch.old (inner_nodes steps.now) }
+    requires { AreLiftable field.graph.now sketch.old (inner_nodes steps.now) }
     ensures sketch { OnOk result (sketch.new ≡ fold lifted_off sketch.old (inner_nodes steps.now)) }
     ensures inner { OnOk result (lifted.new.inner.items ≡ lifted.old.inner.items ++ points_along sketch.old steps.now) }
     ensures walks { OnOk result (lifted.new.walks.items ≡ lifted.old.walks.items) }

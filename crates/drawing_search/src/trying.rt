@@ -235,7 +235,7 @@ impl Search {
 
     /// Takes nodes that moved off the board.
     fn lift_moved(&mut self, field: Field<'_>, moved: &[(NodeId, GridPoint)])
-        requires liftable { AreLiftable field.graph.now self.old.sketch (map (λ (m : NodeId × GridPoint). m.0) moved.now) }
+        requires { AreLiftable field.graph.now self.old.sketch (map (λ (m : NodeId × GridPoint). m.0) moved.now) }
         ensures sketch { self.new.sketch ≡ fold lifted self.old.sketch (map (λ (m : NodeId × GridPoint). m.0) moved.now) }
         ensures weight { self.new.weight ≡ self.old.weight }
         ensures made { self.new.made ≡ self.old.made }

@@ -50,7 +50,7 @@ pub(crate) fn groups_of(
 
 /// Lists each run without a move.
 fn push_alone(alloc: Global, runs: &[Chain], groups: &mut Vec<Group>) -> Result<(), NoMemory>
-    requires sound { All IsSound groups.old.items }
+    requires { All IsSound groups.old.items }
     ensures sound { OnOk result (All IsSound groups.new.items) }
     ensures attempts { OnOk result (attempts_of groups.new.items ≡ attempts_of groups.old.items ++ map attempts_alone runs.now) }
 {
@@ -123,7 +123,7 @@ fn push_nodes(
     runs: &[Chain],
     groups: &mut Vec<Group>,
 ) -> Result<(), NoMemory>
-    requires sound { All IsSound groups.old.items }
+    requires { All IsSound groups.old.items }
     ensures sound { OnOk result (All IsSound groups.new.items) }
     ensures attempts { OnOk result (attempts_of groups.new.items ≡ attempts_of groups.old.items ++ flat_map (λ n. moves_of runs.now (n ∷ [])) (all_nodes nodes)) }
 {

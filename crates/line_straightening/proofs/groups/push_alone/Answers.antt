@@ -12,7 +12,7 @@ use Rattle.line_straightening.proofs.Pushed.{all_alone, alone, push_more}
 use Rattle.line_straightening.proofs.groups.push_alone.Goals as goal
 
 pub loop-run-init : goal.loop-run-init
-loop-run-init c = record { sound = c.requires.sound; attempts = refl }
+loop-run-init c = record { sound = c.requires; attempts = refl }
 
 pub loop-run-preserved : goal.loop-run-preserved
 loop-run-preserved c =

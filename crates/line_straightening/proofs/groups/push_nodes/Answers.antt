@@ -10,7 +10,7 @@ use Rattle.line_straightening.proofs.Pushed.{push_node_more}
 use Rattle.line_straightening.proofs.groups.push_nodes.Goals as goal
 
 pub loop-n-init : goal.loop-n-init
-loop-n-init c = record { sound = c.requires.sound; attempts = sym (append-nil (attempts_of c.args.groups.now.items)) }
+loop-n-init c = record { sound = c.requires; attempts = sym (append-nil (attempts_of c.args.groups.now.items)) }
 
 pub loop-n-preserved : goal.loop-n-preserved
 loop-n-preserved c =

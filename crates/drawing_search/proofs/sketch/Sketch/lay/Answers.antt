@@ -20,8 +20,8 @@ use Rattle.drawing_search.proofs.sketch.Sketch.lay.Goals as goal
 abbrev no_walk : PlainWalk
 no_walk = record { start = nowhere; steps = [] }
 
-pub returns-in_default-clause-laid : goal.returns-in_default-clause-laid
-returns-in_default-clause-laid c = (none_laid c.args.graph.now c.args.most c.args.run.now c.args.self.now (sym c.in_default.is ∙ c.in_ok-walk.ensures), refl)
+pub returns-in_default : goal.returns-in_default
+returns-in_default c = (none_laid c.args.graph.now c.args.most c.args.run.now c.args.self.now (sym c.in_default.is ∙ c.in_ok-walk.ensures), refl)
 
 pub cuts-requires-clause-pieces : goal.cuts-requires-clause-pieces
 cuts-requires-clause-pieces c = omega (arith, c.requires.run.some, ap length c.as_slice-steps.ensures)
@@ -47,8 +47,8 @@ cuts-requires-clause-even c =
     subst (λ (ps : List GridPoint). is_even (point_at ps 0) ≡ true) (sym c.in_ok-track.ensures.points)
     (first_even c.args.graph.now c.requires.graph c.args.self.now c.requires.legal c.args.run.now c.requires.run c.requires.free c.args.most c.in-Some.walk found)
 
-pub returns-in_default-2-clause-laid : goal.returns-in_default-2-clause-laid
-returns-in_default-2-clause-laid c =
+pub returns-in_default-2 : goal.returns-in_default-2
+returns-in_default-2 c =
     let found = sym c.in-Some.is ∙ c.in_ok-walk.ensures in
     let few = cuts_none c.in_ok-track.track.points.items (length c.as_slice-steps.result.now) (sym (ap (option_map vec_items) c.in_default-2.is) ∙ c.in_ok-cuts.ensures) in (
       uncut_laid c.args.graph.now c.args.most c.args.run.now c.args.self.now c.in-Some.walk found
@@ -161,8 +161,8 @@ loop-i-preserved c =
       left = λ more. further_left c.args.graph.now c.requires.graph c.args.self.now c.requires.legal c.args.run.now c.requires.run c.requires.free c.args.most c.in-Some.walk c.in_ok-track.track.points.items c.in_ok-track.track.steps.items c.in-Some-2.cuts.items by c.loop-i.i c.index.result.now c.index-in-loop-i.result.now c.index.result.now c.index-in-loop-i.result.now below c.index.ensures c.index-in-loop-i.ensures c.loop-i.at c.loop-i.self (c.loop-i.invariant.left below) no_step no_walk c.lay_step.new.self c.in_ok-lay_step.ensures more;
     }
 
-pub returns-clause-laid : goal.returns-clause-laid
-returns-clause-laid c =
+pub returns : goal.returns
+returns c =
     let by =
     cut_run c.args.graph.now c.args.self.now c.args.run.now c.args.most c.in-Some.walk c.in_ok-track.track.points.items c.in_ok-track.track.steps.items c.in-Some-2.cuts.items c.as_slice-steps.result.now
     (sym c.in-Some.is ∙ c.in_ok-walk.ensures) c.in_ok-track.ensures.points c.in_ok-track.ensures.steps c.in_ok-track.ensures.track c.as_slice-steps.ensures (sym (ap (option_map vec_items) c.in-Some-2.is) ∙ c.in_ok-cuts.ensures) in

@@ -224,8 +224,8 @@ lay_all-requires-clause-weight c =
     let v = c.args.vector in
     omega (arith, c.stand_moved.ensures.weight, c.requires.off.settled.small)
 
-pub lift_moved-requires-clause-liftable : goal.lift_moved-requires-clause-liftable
-lift_moved-requires-clause-liftable c =
+pub lift_moved-requires : goal.lift_moved-requires
+lift_moved-requires c =
     let f = c.args.field in
     let s = c.args.self.now in
     let l = c.args.lifted.now in

@@ -34,7 +34,7 @@ returns-then-not-branch-clause-laid c =
     let k = c.args.self.now.sketch in
     let w = c.args.self.now.weight in
     let most = c.walk_limit-most.result in
-    let none = subst (λ (b : Bool). IsLaid (laid_within f.graph.now most c.args.run.now k) k c.lay.new.self b) c.if-not-branch.true c.in_ok-lay.ensures.laid in
+    let none = subst (λ (b : Bool). IsLaid (laid_within f.graph.now most c.args.run.now k) k c.lay.new.self b) c.if-not-branch.true c.in_ok-lay.ensures in
     let to = c.point-to.ensures ∙ ap (λ (n : NodeId). point_of_node k n.0) c.end-end.ensures in
     let limit = c.walk_limit-most.ensures.value ∙ ap₂ (λ (p q : GridPoint). limit_between c.args.least (w - 1 - c.args.weight - c.args.ahead) p q) c.point-from.ensures to in (
       subst (λ (j : Sketch). AreAlike j k) (sym none.1) (alike_self k),
@@ -46,7 +46,7 @@ run_gain-gain-requires-clause-legal c =
     let f = c.args.field in
     let k = c.args.self.now.sketch in
     let mid = c.lay.new.self in
-    let there : laid f.graph.now c.args.run.now k ≡ Some mid = laid_from_within f.graph.now c.walk_limit-most.result c.args.run.now k mid (subst (λ (b : Bool). IsLaid (laid_within f.graph.now c.walk_limit-most.result c.args.run.now k) k mid b) c.if-not-branch.false c.in_ok-lay.ensures.laid) in
+    let there : laid f.graph.now c.args.run.now k ≡ Some mid = laid_from_within f.graph.now c.walk_limit-most.result c.args.run.now k mid (subst (λ (b : Bool). IsLaid (laid_within f.graph.now c.walk_limit-most.result c.args.run.now k) k mid b) c.if-not-branch.false c.in_ok-lay.ensures) in
     one_legal f.graph.now c.requires.field.graph c.args.run.now k c.requires.legal c.requires.run c.requires.free mid there
 
 pub run_gain-gain-requires-clause-inner : goal.run_gain-gain-requires-clause-inner
@@ -54,7 +54,7 @@ run_gain-gain-requires-clause-inner c =
     let f = c.args.field in
     let k = c.args.self.now.sketch in
     let mid = c.lay.new.self in
-    let there : laid f.graph.now c.args.run.now k ≡ Some mid = laid_from_within f.graph.now c.walk_limit-most.result c.args.run.now k mid (subst (λ (b : Bool). IsLaid (laid_within f.graph.now c.walk_limit-most.result c.args.run.now k) k mid b) c.if-not-branch.false c.in_ok-lay.ensures.laid) in
+    let there : laid f.graph.now c.args.run.now k ≡ Some mid = laid_from_within f.graph.now c.walk_limit-most.result c.args.run.now k mid (subst (λ (b : Bool). IsLaid (laid_within f.graph.now c.walk_limit-most.result c.args.run.now k) k mid b) c.if-not-branch.false c.in_ok-lay.ensures) in
     one_inner f.graph.now c.requires.field.graph c.args.run.now k c.requires.legal c.requires.run c.requires.free mid there
 
 -- too heavy
@@ -63,7 +63,7 @@ take_run-requires-clause-takable c =
     let f = c.args.field in
     let k = c.args.self.now.sketch in
     let mid = c.lay.new.self in
-    let there : laid f.graph.now c.args.run.now k ≡ Some mid = laid_from_within f.graph.now c.walk_limit-most.result c.args.run.now k mid (subst (λ (b : Bool). IsLaid (laid_within f.graph.now c.walk_limit-most.result c.args.run.now k) k mid b) c.if-not-branch.false c.in_ok-lay.ensures.laid) in
+    let there : laid f.graph.now c.args.run.now k ≡ Some mid = laid_from_within f.graph.now c.walk_limit-most.result c.args.run.now k mid (subst (λ (b : Bool). IsLaid (laid_within f.graph.now c.walk_limit-most.result c.args.run.now k) k mid b) c.if-not-branch.false c.in_ok-lay.ensures) in
     one_takable f.graph.now c.requires.field.graph c.args.run.now k c.requires.legal c.requires.run c.requires.free mid there
 
 pub returns-then-whole-self-clause-laid : goal.returns-then-whole-self-clause-laid
@@ -71,7 +71,7 @@ returns-then-whole-self-clause-laid c =
     let f = c.args.field in
     let k = c.args.self.now.sketch in
     let mid = c.lay.new.self in
-    let there : laid f.graph.now c.args.run.now k ≡ Some mid = laid_from_within f.graph.now c.walk_limit-most.result c.args.run.now k mid (subst (λ (b : Bool). IsLaid (laid_within f.graph.now c.walk_limit-most.result c.args.run.now k) k mid b) c.if-not-branch.false c.in_ok-lay.ensures.laid) in (
+    let there : laid f.graph.now c.args.run.now k ≡ Some mid = laid_from_within f.graph.now c.walk_limit-most.result c.args.run.now k mid (subst (λ (b : Bool). IsLaid (laid_within f.graph.now c.walk_limit-most.result c.args.run.now k) k mid b) c.if-not-branch.false c.in_ok-lay.ensures) in (
       subst (λ (j : Sketch). AreAlike j k) (sym c.take_run.ensures) (one_back f.graph.now c.requires.field.graph c.args.run.now k c.requires.legal c.requires.run c.requires.free mid there),
       one_heavy f.graph.now c.requires.field.graph c.args.run.now k c.requires.legal c.requires.run c.requires.free mid there (scale_of f.by) f.first.now c.args.self.now.weight c.args.weight c.args.ahead (omega (arith, c.run_gain-gain.ensures.gain, c.if-whole-self.true)),
     )
@@ -81,5 +81,5 @@ returns-clause-laid c =
     let f = c.args.field in
     let k = c.args.self.now.sketch in
     let mid = c.lay.new.self in
-    let there : laid f.graph.now c.args.run.now k ≡ Some mid = laid_from_within f.graph.now c.walk_limit-most.result c.args.run.now k mid (subst (λ (b : Bool). IsLaid (laid_within f.graph.now c.walk_limit-most.result c.args.run.now k) k mid b) c.if-not-branch.false c.in_ok-lay.ensures.laid) in
+    let there : laid f.graph.now c.args.run.now k ≡ Some mid = laid_from_within f.graph.now c.walk_limit-most.result c.args.run.now k mid (subst (λ (b : Bool). IsLaid (laid_within f.graph.now c.walk_limit-most.result c.args.run.now k) k mid b) c.if-not-branch.false c.in_ok-lay.ensures) in
     (there, ap (λ g. c.args.weight + g) c.run_gain-gain.ensures.gain, omega (arith, c.if-whole-self.false))
