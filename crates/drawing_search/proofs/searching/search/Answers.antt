@@ -19,7 +19,7 @@ sketch_of-requires-clause-bounds c =
     let ws = c.args.drawing.walks in
     let first = c.in_ok-first.ensures ∙ ap (points_all g) (c.deref.ensures.value ∙ c.into_vec-walks.ensures) in
     let bounds = c.in_ok-bounds.ensures ∙ ap (bounds_past c.args.margin) (c.deref-3.ensures.value ∙ c.into_vec-walks.ensures) in
-    asked_bounds g c.nodes-_nodes.ensures.fits ws c.requires.drawn c.requires.near c.args.margin c.requires.margin c.deref-4.result.now c.in_ok-bounds.bounds c.into_vec-walks.result.items (c.deref-4.ensures.value ∙ first) bounds c.into_vec-walks.ensures
+    asked_bounds g c.nodes-nodes.ensures.fits ws c.requires.drawn c.requires.near c.args.margin c.requires.margin c.deref-4.result.now c.in_ok-bounds.bounds c.into_vec-walks.result.items (c.deref-4.ensures.value ∙ first) bounds c.into_vec-walks.ensures
 
 pub sketch_of-requires-clause-points : goal.sketch_of-requires-clause-points
 sketch_of-requires-clause-points c =
@@ -27,7 +27,7 @@ sketch_of-requires-clause-points c =
     let ws = c.args.drawing.walks in
     let first = c.in_ok-first.ensures ∙ ap (points_all g) (c.deref.ensures.value ∙ c.into_vec-walks.ensures) in
     let bounds = c.in_ok-bounds.ensures ∙ ap (bounds_past c.args.margin) (c.deref-3.ensures.value ∙ c.into_vec-walks.ensures) in
-    asked_points g c.nodes-_nodes.ensures.fits ws c.requires.drawn c.requires.near c.args.margin c.requires.margin c.deref-4.result.now c.in_ok-bounds.bounds c.into_vec-walks.result.items (c.deref-4.ensures.value ∙ first) bounds c.into_vec-walks.ensures
+    asked_points g c.nodes-nodes.ensures.fits ws c.requires.drawn c.requires.near c.args.margin c.requires.margin c.deref-4.result.now c.in_ok-bounds.bounds c.into_vec-walks.result.items (c.deref-4.ensures.value ∙ first) bounds c.into_vec-walks.ensures
 
 pub sketch_of-requires-clause-walks : goal.sketch_of-requires-clause-walks
 sketch_of-requires-clause-walks c =
@@ -35,7 +35,7 @@ sketch_of-requires-clause-walks c =
     let ws = c.args.drawing.walks in
     let first = c.in_ok-first.ensures ∙ ap (points_all g) (c.deref.ensures.value ∙ c.into_vec-walks.ensures) in
     let bounds = c.in_ok-bounds.ensures ∙ ap (bounds_past c.args.margin) (c.deref-3.ensures.value ∙ c.into_vec-walks.ensures) in
-    asked_walks g c.nodes-_nodes.ensures.fits ws c.requires.drawn c.requires.near c.args.margin c.requires.margin c.deref-4.result.now c.in_ok-bounds.bounds c.into_vec-walks.result.items (c.deref-4.ensures.value ∙ first) bounds c.into_vec-walks.ensures
+    asked_walks g c.nodes-nodes.ensures.fits ws c.requires.drawn c.requires.near c.args.margin c.requires.margin c.deref-4.result.now c.in_ok-bounds.bounds c.into_vec-walks.result.items (c.deref-4.ensures.value ∙ first) bounds c.into_vec-walks.ensures
 
 pub sketch_of-requires-clause-inside : goal.sketch_of-requires-clause-inside
 sketch_of-requires-clause-inside c =
@@ -43,7 +43,7 @@ sketch_of-requires-clause-inside c =
     let ws = c.args.drawing.walks in
     let first = c.in_ok-first.ensures ∙ ap (points_all g) (c.deref.ensures.value ∙ c.into_vec-walks.ensures) in
     let bounds = c.in_ok-bounds.ensures ∙ ap (bounds_past c.args.margin) (c.deref-3.ensures.value ∙ c.into_vec-walks.ensures) in
-    asked_inside g c.nodes-_nodes.ensures.fits ws c.requires.drawn c.requires.near c.args.margin c.requires.margin c.deref-4.result.now c.in_ok-bounds.bounds c.into_vec-walks.result.items (c.deref-4.ensures.value ∙ first) bounds c.into_vec-walks.ensures
+    asked_inside g c.nodes-nodes.ensures.fits ws c.requires.drawn c.requires.near c.args.margin c.requires.margin c.deref-4.result.now c.in_ok-bounds.bounds c.into_vec-walks.result.items (c.deref-4.ensures.value ∙ first) bounds c.into_vec-walks.ensures
 
 pub sketch_of-requires-clause-even : goal.sketch_of-requires-clause-even
 sketch_of-requires-clause-even c =
@@ -51,7 +51,7 @@ sketch_of-requires-clause-even c =
     let ws = c.args.drawing.walks in
     let first = c.in_ok-first.ensures ∙ ap (points_all g) (c.deref.ensures.value ∙ c.into_vec-walks.ensures) in
     let bounds = c.in_ok-bounds.ensures ∙ ap (bounds_past c.args.margin) (c.deref-3.ensures.value ∙ c.into_vec-walks.ensures) in
-    asked_even g c.nodes-_nodes.ensures.fits ws c.requires.drawn c.requires.near c.args.margin c.requires.margin c.deref-4.result.now c.in_ok-bounds.bounds c.into_vec-walks.result.items (c.deref-4.ensures.value ∙ first) bounds c.into_vec-walks.ensures
+    asked_even g c.nodes-nodes.ensures.fits ws c.requires.drawn c.requires.near c.args.margin c.requires.margin c.deref-4.result.now c.in_ok-bounds.bounds c.into_vec-walks.result.items (c.deref-4.ensures.value ∙ first) bounds c.into_vec-walks.ensures
 
 pub sketch_of-requires-clause-within : goal.sketch_of-requires-clause-within
 sketch_of-requires-clause-within c =
@@ -59,7 +59,7 @@ sketch_of-requires-clause-within c =
     let ws = c.args.drawing.walks in
     let first = c.in_ok-first.ensures ∙ ap (points_all g) (c.deref.ensures.value ∙ c.into_vec-walks.ensures) in
     let bounds = c.in_ok-bounds.ensures ∙ ap (bounds_past c.args.margin) (c.deref-3.ensures.value ∙ c.into_vec-walks.ensures) in
-    asked_within g c.nodes-_nodes.ensures.fits ws c.requires.drawn c.requires.near c.args.margin c.requires.margin c.deref-4.result.now c.in_ok-bounds.bounds c.into_vec-walks.result.items (c.deref-4.ensures.value ∙ first) bounds c.into_vec-walks.ensures
+    asked_within g c.nodes-nodes.ensures.fits ws c.requires.drawn c.requires.near c.args.margin c.requires.margin c.deref-4.result.now c.in_ok-bounds.bounds c.into_vec-walks.result.items (c.deref-4.ensures.value ∙ first) bounds c.into_vec-walks.ensures
 
 -- the field of the search, and the drawing that it begins with
 pub passes-requires-clause-field : goal.passes-requires-clause-field
@@ -69,14 +69,14 @@ passes-requires-clause-field c =
     let first = c.in_ok-first.ensures ∙ ap (points_all g) (c.deref.ensures.value ∙ c.into_vec-walks.ensures) in
     let bounds = c.in_ok-bounds.ensures ∙ ap (bounds_past c.args.margin) (c.deref-3.ensures.value ∙ c.into_vec-walks.ensures) in
     record {
-      graph = c.nodes-_nodes.ensures.fits;
+      graph = c.nodes-nodes.ensures.fits;
       pairs = c.in_ok-pairs.ensures;
       turns = c.requires.small;
       overs = c.requires.overs;
       aparts = c.requires.aparts;
       held = c.requires.held;
-      first = asked_points g c.nodes-_nodes.ensures.fits ws c.requires.drawn c.requires.near c.args.margin c.requires.margin c.deref-2.result.now c.in_ok-bounds.bounds c.into_vec-walks.result.items (c.deref-2.ensures.value ∙ first) bounds c.into_vec-walks.ensures;
-      near = asked_near g c.nodes-_nodes.ensures.fits ws c.requires.drawn c.requires.near c.args.margin c.requires.margin c.deref-2.result.now c.in_ok-bounds.bounds c.into_vec-walks.result.items (c.deref-2.ensures.value ∙ first) bounds c.into_vec-walks.ensures;
+      first = asked_points g c.nodes-nodes.ensures.fits ws c.requires.drawn c.requires.near c.args.margin c.requires.margin c.deref-2.result.now c.in_ok-bounds.bounds c.into_vec-walks.result.items (c.deref-2.ensures.value ∙ first) bounds c.into_vec-walks.ensures;
+      near = asked_near g c.nodes-nodes.ensures.fits ws c.requires.drawn c.requires.near c.args.margin c.requires.margin c.deref-2.result.now c.in_ok-bounds.bounds c.into_vec-walks.result.items (c.deref-2.ensures.value ∙ first) bounds c.into_vec-walks.ensures;
     }
 
 pub passes-requires-clause-first : goal.passes-requires-clause-first
@@ -85,7 +85,7 @@ passes-requires-clause-first c =
     let ws = c.args.drawing.walks in
     let first = c.in_ok-first.ensures ∙ ap (points_all g) (c.deref.ensures.value ∙ c.into_vec-walks.ensures) in
     let bounds = c.in_ok-bounds.ensures ∙ ap (bounds_past c.args.margin) (c.deref-3.ensures.value ∙ c.into_vec-walks.ensures) in
-    c.deref-2.ensures.value ∙ first ∙ sym (ap (points_all g) (begun_walks g c.nodes-_nodes.ensures.fits ws c.requires.drawn c.requires.near c.args.margin c.requires.margin c.deref-4.result.now c.in_ok-bounds.bounds c.into_vec-walks.result.items (c.deref-4.ensures.value ∙ first) bounds c.into_vec-walks.ensures c.in_ok-sketch.sketch c.in_ok-sketch.ensures))
+    c.deref-2.ensures.value ∙ first ∙ sym (ap (points_all g) (begun_walks g c.nodes-nodes.ensures.fits ws c.requires.drawn c.requires.near c.args.margin c.requires.margin c.deref-4.result.now c.in_ok-bounds.bounds c.into_vec-walks.result.items (c.deref-4.ensures.value ∙ first) bounds c.into_vec-walks.ensures c.in_ok-sketch.sketch c.in_ok-sketch.ensures))
 
 pub passes-requires-clause-legal : goal.passes-requires-clause-legal
 passes-requires-clause-legal c =
@@ -93,7 +93,7 @@ passes-requires-clause-legal c =
     let ws = c.args.drawing.walks in
     let first = c.in_ok-first.ensures ∙ ap (points_all g) (c.deref.ensures.value ∙ c.into_vec-walks.ensures) in
     let bounds = c.in_ok-bounds.ensures ∙ ap (bounds_past c.args.margin) (c.deref-3.ensures.value ∙ c.into_vec-walks.ensures) in
-    begun_legal g c.nodes-_nodes.ensures.fits ws c.requires.drawn c.requires.near c.args.margin c.requires.margin c.deref-4.result.now c.in_ok-bounds.bounds c.into_vec-walks.result.items (c.deref-4.ensures.value ∙ first) bounds c.into_vec-walks.ensures c.in_ok-sketch.sketch c.in_ok-sketch.ensures
+    begun_legal g c.nodes-nodes.ensures.fits ws c.requires.drawn c.requires.near c.args.margin c.requires.margin c.deref-4.result.now c.in_ok-bounds.bounds c.into_vec-walks.result.items (c.deref-4.ensures.value ∙ first) bounds c.into_vec-walks.ensures c.in_ok-sketch.sketch c.in_ok-sketch.ensures
 
 pub passes-requires-clause-whole : goal.passes-requires-clause-whole
 passes-requires-clause-whole c =
@@ -101,7 +101,7 @@ passes-requires-clause-whole c =
     let ws = c.args.drawing.walks in
     let first = c.in_ok-first.ensures ∙ ap (points_all g) (c.deref.ensures.value ∙ c.into_vec-walks.ensures) in
     let bounds = c.in_ok-bounds.ensures ∙ ap (bounds_past c.args.margin) (c.deref-3.ensures.value ∙ c.into_vec-walks.ensures) in
-    begun_whole g c.nodes-_nodes.ensures.fits ws c.requires.drawn c.requires.near c.args.margin c.requires.margin c.deref-4.result.now c.in_ok-bounds.bounds c.into_vec-walks.result.items (c.deref-4.ensures.value ∙ first) bounds c.into_vec-walks.ensures c.in_ok-sketch.sketch c.in_ok-sketch.ensures
+    begun_whole g c.nodes-nodes.ensures.fits ws c.requires.drawn c.requires.near c.args.margin c.requires.margin c.deref-4.result.now c.in_ok-bounds.bounds c.into_vec-walks.result.items (c.deref-4.ensures.value ∙ first) bounds c.into_vec-walks.ensures c.in_ok-sketch.sketch c.in_ok-sketch.ensures
 
 pub returns : goal.returns
 returns c =
@@ -109,4 +109,4 @@ returns c =
     let ws = c.args.drawing.walks in
     let first = c.in_ok-first.ensures ∙ ap (points_all g) (c.deref.ensures.value ∙ c.into_vec-walks.ensures) in
     let bounds = c.in_ok-bounds.ensures ∙ ap (bounds_past c.args.margin) (c.deref-3.ensures.value ∙ c.into_vec-walks.ensures) in
-    begun_searched g c.nodes-_nodes.ensures.fits ws c.requires.drawn c.requires.near c.args.margin c.requires.margin c.deref-4.result.now c.in_ok-bounds.bounds c.into_vec-walks.result.items (c.deref-4.ensures.value ∙ first) bounds c.into_vec-walks.ensures c.in_ok-sketch.sketch c.in_ok-sketch.ensures (scale_of c.args.by) (attempts_of c.args.groups.now) c.args.at_once c.args.most c.passes.result c.passes.ensures
+    begun_searched g c.nodes-nodes.ensures.fits ws c.requires.drawn c.requires.near c.args.margin c.requires.margin c.deref-4.result.now c.in_ok-bounds.bounds c.into_vec-walks.result.items (c.deref-4.ensures.value ∙ first) bounds c.into_vec-walks.ensures c.in_ok-sketch.sketch c.in_ok-sketch.ensures (scale_of c.args.by) (attempts_of c.args.groups.now) c.args.at_once c.args.most c.passes.result c.passes.ensures

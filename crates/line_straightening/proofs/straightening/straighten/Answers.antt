@@ -16,15 +16,15 @@ use Rattle.line_straightening.proofs.Promised.{chains_are_runs, farther, straigh
 use Rattle.line_straightening.proofs.straightening.straighten.Goals as goal
 
 pub chains_of-chains-requires : goal.chains_of-chains-requires
-chains_of-chains-requires c = ap length c.in_ok-corners.ensures ∙ corners_many c.args.graph.now c.nodes-_nodes.ensures.fits c.args.cell
+chains_of-chains-requires c = ap length c.in_ok-corners.ensures ∙ corners_many c.args.graph.now c.nodes-nodes.ensures.fits c.args.cell
 
 pub groups_of-groups-requires-clause-flags : goal.groups_of-groups-requires-clause-flags
-groups_of-groups-requires-clause-flags c = ap length c.in_ok-corners.ensures ∙ corners_many c.args.graph.now c.nodes-_nodes.ensures.fits c.args.cell
+groups_of-groups-requires-clause-flags c = ap length c.in_ok-corners.ensures ∙ corners_many c.args.graph.now c.nodes-nodes.ensures.fits c.args.cell
 
 pub groups_of-groups-requires-clause-runs : goal.groups_of-groups-requires-clause-runs
 groups_of-groups-requires-clause-runs c =
     let graph = c.args.graph.now in
-    subst (AreRunsOf graph) (sym (c.deref.ensures.value ∙ c.in_ok-chains.ensures ∙ ap (chains_of graph) c.in_ok-corners.ensures)) (chains_are_runs graph c.nodes-_nodes.ensures.fits c.args.cell)
+    subst (AreRunsOf graph) (sym (c.deref.ensures.value ∙ c.in_ok-chains.ensures ∙ ap (chains_of graph) c.in_ok-corners.ensures)) (chains_are_runs graph c.nodes-nodes.ensures.fits c.args.cell)
 
 pub groups_of-groups-requires-clause-are : goal.groups_of-groups-requires-clause-are
 groups_of-groups-requires-clause-are c = c.deref.ensures.value ∙ c.in_ok-chains.ensures
@@ -32,13 +32,13 @@ groups_of-groups-requires-clause-are c = c.deref.ensures.value ∙ c.in_ok-chain
 pub groups_of-groups-requires-clause-fitting : goal.groups_of-groups-requires-clause-fitting
 groups_of-groups-requires-clause-fitting c =
     let graph = c.args.graph.now in
-    subst (λ (fs : List Bool). All (IsFitting graph) (straight_attempts graph fs)) (sym c.in_ok-corners.ensures) (all_fitting graph c.nodes-_nodes.ensures.fits c.args.cell)
+    subst (λ (fs : List Bool). All (IsFitting graph) (straight_attempts graph fs)) (sym c.in_ok-corners.ensures) (all_fitting graph c.nodes-nodes.ensures.fits c.args.cell)
 
 pub search-requires-clause-near : goal.search-requires-clause-near
 search-requires-clause-near c = farther 1800 1900 (omega arith) c.args.drawing.walks c.requires.near
 
 pub search-requires-clause-held : goal.search-requires-clause-held
-search-requires-clause-held c = ap length c.in_ok-corners.ensures ∙ corners_many c.args.graph.now c.nodes-_nodes.ensures.fits c.args.cell
+search-requires-clause-held c = ap length c.in_ok-corners.ensures ∙ corners_many c.args.graph.now c.nodes-nodes.ensures.fits c.args.cell
 
 pub search-requires-clause-fitting : goal.search-requires-clause-fitting
 search-requires-clause-fitting c =
