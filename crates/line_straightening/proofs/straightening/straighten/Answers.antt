@@ -15,22 +15,22 @@ use Rattle.line_straightening.proofs.Fitting.{all_fitting}
 use Rattle.line_straightening.proofs.Promised.{chains_are_runs, farther, straightened_of}
 use Rattle.line_straightening.proofs.straightening.straighten.Goals as goal
 
-pub chains_of-chains-requires : goal.chains_of-chains-requires
-chains_of-chains-requires c = ap length c.in_ok-corners.ensures ∙ corners_many c.args.graph.now c.nodes-nodes.ensures.fits c.args.cell
+pub chains_of-requires : goal.chains_of-requires
+chains_of-requires c = ap length c.in_ok-corners.ensures ∙ corners_many c.args.graph.now c.nodes-nodes.ensures.fits c.args.cell
 
-pub groups_of-groups-requires-clause-flags : goal.groups_of-groups-requires-clause-flags
-groups_of-groups-requires-clause-flags c = ap length c.in_ok-corners.ensures ∙ corners_many c.args.graph.now c.nodes-nodes.ensures.fits c.args.cell
+pub groups_of-requires-clause-flags : goal.groups_of-requires-clause-flags
+groups_of-requires-clause-flags c = ap length c.in_ok-corners.ensures ∙ corners_many c.args.graph.now c.nodes-nodes.ensures.fits c.args.cell
 
-pub groups_of-groups-requires-clause-runs : goal.groups_of-groups-requires-clause-runs
-groups_of-groups-requires-clause-runs c =
+pub groups_of-requires-clause-runs : goal.groups_of-requires-clause-runs
+groups_of-requires-clause-runs c =
     let graph = c.args.graph.now in
     subst (AreRunsOf graph) (sym (c.deref.ensures.value ∙ c.in_ok-chains.ensures ∙ ap (chains_of graph) c.in_ok-corners.ensures)) (chains_are_runs graph c.nodes-nodes.ensures.fits c.args.cell)
 
-pub groups_of-groups-requires-clause-are : goal.groups_of-groups-requires-clause-are
-groups_of-groups-requires-clause-are c = c.deref.ensures.value ∙ c.in_ok-chains.ensures
+pub groups_of-requires-clause-are : goal.groups_of-requires-clause-are
+groups_of-requires-clause-are c = c.deref.ensures.value ∙ c.in_ok-chains.ensures
 
-pub groups_of-groups-requires-clause-fitting : goal.groups_of-groups-requires-clause-fitting
-groups_of-groups-requires-clause-fitting c =
+pub groups_of-requires-clause-fitting : goal.groups_of-requires-clause-fitting
+groups_of-requires-clause-fitting c =
     let graph = c.args.graph.now in
     subst (λ (fs : List Bool). All (IsFitting graph) (straight_attempts graph fs)) (sym c.in_ok-corners.ensures) (all_fitting graph c.nodes-nodes.ensures.fits c.args.cell)
 

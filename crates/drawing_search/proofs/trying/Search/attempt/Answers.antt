@@ -63,32 +63,32 @@ aparts_after-aparts-requires-clause-there c =
 pub overflow_add-base : goal.overflow_add-base
 overflow_add-base c = omega (arith, c.aparts_after-aparts.ensures.small, c.requires.off.lifted.light, c.requires.off.settled.weight_is, c.requires.off.settled.small)
 
-pub least_gains-requires-clause-near : goal.least_gains-requires-clause-near
-least_gains-requires-clause-near c =
+pub least_gains-ahead-requires-clause-near : goal.least_gains-ahead-requires-clause-near
+least_gains-ahead-requires-clause-near c =
     let f = c.args.field in
     let s = c.args.self.now in
     subst (All (λ (m : NodeId × GridPoint). is_near 2000 m.1 ≡ true)) (sym c.as_slice-moved.ensures.value)
     (moved_near f.graph.now c.requires.field.graph (scale_of f.by) f.first.now c.args.group.now c.args.lifted.now c.args.vector s.sketch s.weight c.requires.off)
 
-pub least_gains-requires-clause-from : goal.least_gains-requires-clause-from
-least_gains-requires-clause-from c =
+pub least_gains-ahead-requires-clause-from : goal.least_gains-ahead-requires-clause-from
+least_gains-ahead-requires-clause-from c =
     let f = c.args.field in
     let s = c.args.self.now in
     subst (All (λ (x : Chain). x.from.0 < length s.sketch.points)) (sym c.as_slice-runs.ensures)
     (runs_from f.graph.now c.requires.field.graph (scale_of f.by) f.first.now c.args.group.now c.args.lifted.now c.args.vector s.sketch s.weight c.requires.off)
 
-pub least_gains-requires-clause-to : goal.least_gains-requires-clause-to
-least_gains-requires-clause-to c =
+pub least_gains-ahead-requires-clause-to : goal.least_gains-ahead-requires-clause-to
+least_gains-ahead-requires-clause-to c =
     let f = c.args.field in
     let s = c.args.self.now in
     subst (All (λ (x : Chain). (end_of x).0 < length s.sketch.points)) (sym c.as_slice-runs.ensures)
     (runs_to f.graph.now c.requires.field.graph (scale_of f.by) f.first.now c.args.group.now c.args.lifted.now c.args.vector s.sketch s.weight c.requires.off)
 
-pub least_gains-requires-clause-each : goal.least_gains-requires-clause-each
-least_gains-requires-clause-each c = ap length c.deref.ensures.value ∙ c.requires.off.lifted.each ∙ ap length (sym c.as_slice-runs.ensures)
+pub least_gains-ahead-requires-clause-each : goal.least_gains-ahead-requires-clause-each
+least_gains-ahead-requires-clause-each c = ap length c.deref.ensures.value ∙ c.requires.off.lifted.each ∙ ap length (sym c.as_slice-runs.ensures)
 
-pub least_gains-requires-clause-small : goal.least_gains-requires-clause-small
-least_gains-requires-clause-small c = subst (All IsSmallLeast) (sym c.deref.ensures.value) c.requires.off.lifted.small
+pub least_gains-ahead-requires-clause-small : goal.least_gains-ahead-requires-clause-small
+least_gains-ahead-requires-clause-small c = subst (All IsSmallLeast) (sym c.deref.ensures.value) c.requires.off.lifted.small
 
 pub returns-then-at_least-self-clause-attempted : goal.returns-then-at_least-self-clause-attempted
 returns-then-at_least-self-clause-attempted c =
