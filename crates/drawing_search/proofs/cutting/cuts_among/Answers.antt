@@ -9,9 +9,11 @@ loop-i-preserved c =
     let places = c.args.places.now in
     let place = (λ (i : ℕ). get_or places (i * (length places - 1) / c.args.pieces) 0) in
     let i = c.loop-i.i in
+    let same : i ≡ 0 + i = omega (arith) in
     c.in_ok-push.ensures.items
     ∙ ap (λ (v : List ℕ). v ++ place i ∷ []) c.loop-i.invariant
     ∙ sym (map-append place (range_with_len 0 i) (i ∷ []))
+    ∙ ap (λ (n : ℕ). map place (range_with_len 0 i ++ n ∷ [])) same
     ∙ ap (map place) (sym (range_more 0 i))
 
 pub returns : goal.returns
