@@ -55,4 +55,24 @@ impl Flags {
     {
         self.words[place / 64] |= 1 << (place % 64);
     }
+
+    /// Lowers the flag at a place.
+    pub fn lower(&mut self, place: usize)
+        requires { place < length self.old }
+        ensures { self.new ≡ slice_set self.old place false }
+    {
+        self.words[place / 64] &= !(1 << (place % 64));
+    }
+
+    /// Raises or lowers the flag at a place.
+    pub fn put(&mut self, place: usize, flag: bool)
+        requires { place < length self.old }
+        ensures { self.new ≡ slice_set self.old place flag }
+    {
+        if flag {
+            self.raise(place);
+        } else {
+            self.lower(place);
+        }
+    }
 }

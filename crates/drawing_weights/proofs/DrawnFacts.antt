@@ -16,7 +16,7 @@ use Rattle.octi_grid.specs.declared.dir.Dir.{Dir}
 use Rattle.octi_grid.specs.declared.point.GridPoint.{GridPoint}
 use Rattle.octi_grid.specs.Ways.{after, points_from, step_from}
 use Rattle.octi_grid.specs.Walks.{PlainWalk, doubled_of, end_point, points_of}
-use Rattle.octi_grid.specs.Legal.{are_distinct, is_even, legal, legs_of, puts_by, puts_of, why_illegal, Leg, Put}
+use Rattle.octi_grid.specs.Legal.{all_apart, are_apart, are_distinct, is_even, legal, legs_of, puts_by, puts_of, why_illegal, Leg, Put}
 use Rattle.octi_grid.specs.Taking.{point_in}
 use Rattle.octi_grid.proofs.Members.{all_at, in_flat_map, In}
 use Rattle.octi_grid.proofs.LegalLemmas.{point_in-found, point_in-none, some_or_none, EndsFit, EndsFit-from}
@@ -40,6 +40,26 @@ leg_in [] ws i e w h k = cc
 leg_in (f ∷ es) [] i e w h k = cc
 leg_in (f ∷ es) (v ∷ ws) zero e w h k = let one : f ≡ e = cc in let other : v ≡ w = cc in inl (ap (λ (x : NodeId × NodeId). let l : Leg = (x, w) in l) (sym one) ∙ ap (λ (x : PlainWalk). let l : Leg = (f, x) in l) (sym other))
 leg_in (f ∷ es) (v ∷ ws) (suc i) e w h k = inr (leg_in es ws i e w h k)
+
+-- legs by their places
+pub leg_place : (es : List (NodeId × NodeId)) (ws : List PlainWalk) (i : ℕ) (e : NodeId × NodeId) (w : PlainWalk) → slice_get es i ≡ Some e → slice_get ws i ≡ Some w → slice_get (legs_of es ws) i ≡ Some (let l : Leg = (e, w) in l)
+leg_place [] ws i e w h k = cc
+leg_place (f ∷ es) [] i e w h k = cc
+leg_place (f ∷ es) (v ∷ ws) zero e w h k = let one : f ≡ e = cc in let other : v ≡ w = cc in ap (λ (x : NodeId × NodeId). Some (let l : Leg = (x, v) in l)) one ∙ ap (λ (x : PlainWalk). Some (let l : Leg = (e, x) in l)) other
+leg_place (f ∷ es) (v ∷ ws) (suc i) e w h k = leg_place es ws i e w h k
+
+in_place : (legs : List Leg) (i : ℕ) (l : Leg) → slice_get legs i ≡ Some l → In l legs
+in_place [] i l e = cc
+in_place (m ∷ legs) zero l e = let same : l ≡ m = cc in inl same
+in_place (m ∷ legs) (suc i) l e = inr (in_place legs i l e)
+
+pub apart_between : (legs : List Leg) (i j : ℕ) (l m : Leg) → all_apart legs ≡ true → i < j → slice_get legs i ≡ Some l → slice_get legs j ≡ Some m → are_apart l m ≡ true
+apart_between [] i j l m a h e f = cc
+apart_between (k ∷ legs) i zero l m a h e f = absurd (omega (arith, h))
+apart_between (k ∷ legs) zero (suc j) l m a h e f =
+    let same : k ≡ l = cc in
+    subst (λ (x : Leg). are_apart x m ≡ true) same (all_at (are_apart k) legs m (and_parts (list_all (are_apart k) legs) (all_apart legs) a).0 (in_place legs j m f))
+apart_between (k ∷ legs) (suc i) (suc j) l m a h e f = apart_between legs i j l m (and_parts (list_all (are_apart k) legs) (all_apart legs) a).1 (omega (arith, h)) e f
 
 -- every walk is that of a leg
 pub walks_each : (P : PlainWalk → Type 0) (es : List (NodeId × NodeId)) (ws : List PlainWalk) → length ws ≡ length es → ((l : Leg) → In l (legs_of es ws) → P l.1) → AllByRecursion P ws

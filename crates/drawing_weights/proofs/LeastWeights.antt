@@ -17,7 +17,7 @@ use Rattle.walk_search.proofs.LeastReach.{reach_none, reach_step}
 use Rattle.drawing_weights.specs.Weights.{is_straight, least_weight, turns_of, walk_weight}
 
 -- a walk costs what it costs at least to come over, and its turns
-reach_turns : (a b : GridPoint) (ds : List Dir) → reach_of a (after b ds) + turns_of ds ≤ reach_of a b + way_cost ds
+pub reach_turns : (a b : GridPoint) (ds : List Dir) → reach_of a (after b ds) + turns_of ds ≤ reach_of a b + way_cost ds
 reach_turns a b [] = omega arith
 reach_turns a b (d ∷ []) = omega (arith, reach_step a b d)
 reach_turns a b (d ∷ e ∷ ds) = omega (arith, reach_step a b d, reach_turns a (step_from b d) (e ∷ ds))
@@ -29,7 +29,7 @@ no_turn a b h k e = omega arith
 one_way : (d e : Dir) → turn_between d e ≡ 0 → d ≡ e
 one_way d e h = same_direction d e (no_turn (number_of d) (number_of e) (number_small d) (number_small e) h)
 
-all_one_way : (d : Dir) (ds : List Dir) → turns_of (d ∷ ds) ≡ 0 → d ∷ ds ≡ replicate (suc (length ds)) d
+pub all_one_way : (d : Dir) (ds : List Dir) → turns_of (d ∷ ds) ≡ 0 → d ∷ ds ≡ replicate (suc (length ds)) d
 all_one_way d [] h = refl
 all_one_way d (e ∷ ds) h =
     let same : d ≡ e = one_way d e (omega (arith, h)) in

@@ -29,9 +29,13 @@ walk_weight w = cost_of w + 8 * turns_of w.steps
 abbrev pub square : ℕ → ℕ
 square n = n * n
 
+-- the square of the distance between two points
+abbrev pub square_apart : GridPoint → GridPoint → ℕ
+square_apart first here = square (unsigned_abs (here.x -ℤ first.x)) + square (unsigned_abs (here.y -ℤ first.y))
+
 -- a node weighs three times the square of its distance from where it first stood
 abbrev pub apart_weight : GridPoint → GridPoint → ℕ
-apart_weight first here = 3 * (square (unsigned_abs (here.x -ℤ first.x)) + square (unsigned_abs (here.y -ℤ first.y)))
+apart_weight first here = 3 * square_apart first here
 
 -- where a drawing puts node n: where the first walk at it does. In a legal drawing all do.
 abbrev pub point_of : GraphParts → List PlainWalk → ℕ → GridPoint

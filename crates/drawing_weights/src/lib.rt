@@ -4,10 +4,12 @@
 
 mod laws;
 mod points;
+mod weighing;
 mod weights;
 
 pub use laws::no_walk_weighs_less;
 pub use points::{point_of, points_of};
+pub use weighing::Weighing;
 pub use weights::{
     apart_weight, drawing_weight, least_weight, node_weight, walk_weight, weight_of,
 };

@@ -7,7 +7,7 @@ ghost use Rattle.octi_grid.specs.Costs.{turn_to};
 ghost use Rattle.octi_grid.specs.Runs.{are_runs, steps_of};
 ghost use Rattle.drawing_weights.specs.Drawn.{IsDrawn, IsShort};
 ghost use Rattle.grid_board.specs.Points.{are_near};
-ghost use Rattle.drawing_weights.specs.Weights.{apart_weight, is_straight, least_weight, nodes_weight, point_of, square, turn_after, turns_of, walk_weight, walks_weight, weight_of};
+ghost use Rattle.drawing_weights.specs.Weights.{apart_weight, is_straight, least_weight, nodes_weight, point_of, square, square_apart, turn_after, turns_of, walk_weight, walks_weight, weight_of};
 
 use crate::points::point_of;
 use graph_core::LineGraph;
@@ -92,7 +92,7 @@ pub fn walk_weight(walk: &Walk) -> u64
 }
 
 /// What the turns of runs cost together.
-fn turns_of(runs: &[Run]) -> u64
+pub(crate) fn turns_of(runs: &[Run]) -> u64
     requires runs { are_runs runs.now ≡ true }
     requires few { length (steps_of runs.now) ≤ 16008001 }
     ensures turns { result ≡ turns_of (steps_of runs.now) }
@@ -135,14 +135,26 @@ pub fn apart_weight(first: GridPoint, here: GridPoint) -> u64
     ensures weight { result ≡ apart_weight first here }
     ensures small { result ≤ 100000000 }
 {
-    3 * (square(here.x.abs_diff(first.x)) + square(here.y.abs_diff(first.y)))
+    3 * square_apart(first, here)
+}
+
+/// The square of the distance between two points.
+pub(crate) fn square_apart(first: GridPoint, here: GridPoint) -> u64
+    requires first_x { unsigned_abs first.x ≤ 2000 }
+    requires first_y { unsigned_abs first.y ≤ 2000 }
+    requires x { unsigned_abs here.x ≤ 2000 }
+    requires y { unsigned_abs here.y ≤ 2000 }
+    ensures value { result ≡ square_apart first here }
+    ensures small { result ≤ 32000000 }
+{
+    square(here.x.abs_diff(first.x)) + square(here.y.abs_diff(first.y))
 }
 
 /// The square of a number.
 fn square(n: u32) -> u64
-    requires { n ≤ 3808 }
+    requires { n ≤ 4000 }
     ensures value { result ≡ square n }
-    ensures small { result ≤ 14500864 }
+    ensures small { result ≤ 16000000 }
 {
     u64::from(n) * u64::from(n)
 }

@@ -7,7 +7,7 @@ use Rattle.octi_grid.specs.declared.point.GridPoint.{GridPoint}
 use Rattle.octi_grid.specs.Ways.{are_one}
 use Rattle.grid_board.specs.declared.bounds.Bounds.{Bounds}
 use Rattle.grid_board.specs.Boards.{contains, cells_of, cell_of, point_of, is_marked}
-use Rattle.grid_board.specs.Taking.{raised}
+use Rattle.grid_board.specs.Taking.{flagged}
 use Rattle.grid_board.proofs.Within.{IsInside, inside_facts, inside_test, point_below, point_of-cell}
 
 -- the test of one point
@@ -57,15 +57,15 @@ pub cond_or : (t x : Bool) → cond t true x ≡ (t || x)
 cond_or true x = refl
 cond_or false x = refl
 
--- flags of some points were raised
+-- flags of some points were raised or lowered
 pub AllInside : Bounds → List GridPoint → Type 0
 AllInside b [] = Unit {0}
 AllInside b (p ∷ ps) = IsInside b p × AllInside b ps
 
-pub length-raised : (b : Bounds) (ps : List GridPoint) (flags : List Bool) → length (raised b flags ps) ≡ length flags
-length-raised b [] flags = refl
-length-raised b (p ∷ ps) flags = length-raised b ps (set flags (cell_of b p) true) ∙ length-set flags (cell_of b p) true
+pub length-flagged : (b : Bounds) (v : Bool) (ps : List GridPoint) (flags : List Bool) → length (flagged b v flags ps) ≡ length flags
+length-flagged b v [] flags = refl
+length-flagged b v (p ∷ ps) flags = length-flagged b v ps (set flags (cell_of b p) v) ∙ length-set flags (cell_of b p) v
 
-pub raised-append : (b : Bounds) (ps qs : List GridPoint) (flags : List Bool) → raised b flags (ps ++ qs) ≡ raised b (raised b flags ps) qs
-raised-append b [] qs flags = refl
-raised-append b (p ∷ ps) qs flags = raised-append b ps qs (set flags (cell_of b p) true)
+pub flagged-append : (b : Bounds) (v : Bool) (ps qs : List GridPoint) (flags : List Bool) → flagged b v flags (ps ++ qs) ≡ flagged b v (flagged b v flags ps) qs
+flagged-append b v [] qs flags = refl
+flagged-append b v (p ∷ ps) qs flags = flagged-append b v ps qs (set flags (cell_of b p) v)

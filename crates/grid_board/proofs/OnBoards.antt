@@ -10,14 +10,14 @@ use Rattle.octi_grid.specs.declared.dir.Dir.TheVariants as dir
 use Rattle.octi_grid.specs.declared.point.GridPoint.{GridPoint}
 use Rattle.octi_grid.specs.Ways.{are_one, doubled, doubled_from, east_of, north_of, points_from, step_from}
 use Rattle.octi_grid.specs.Costs.{step_cost}
-use Rattle.octi_grid.specs.Walks.{PlainWalk, doubled_of, points_of}
+use Rattle.octi_grid.specs.Walks.{PlainWalk, doubled_of, end_point, points_of}
 use Rattle.octi_grid.specs.Legal.{is_among, is_even}
 use Rattle.octi_grid.proofs.WayLemmas.{east_small, north_small}
 use Rattle.grid_board.specs.declared.bounds.Bounds.{Bounds}
-use Rattle.grid_board.specs.Boards.{BoardParts, BoardFlags, AreBounds, IsBoard, IsKept, contains, cells_of, cell_of, doubled_bounds, empty_board, is_inside, is_marked, parts_of, with_node, with_node_moved, with_walk}
-use Rattle.grid_board.specs.Taking.{raised}
+use Rattle.grid_board.specs.Boards.{BoardParts, BoardFlags, AreBounds, IsBoard, IsKept, contains, cells_of, cell_of, doubled_bounds, empty_board, is_inside, is_marked, parts_of, with_kept, with_node, with_node_moved, with_walk, without_node, without_walk}
+use Rattle.grid_board.specs.Taking.{flagged}
 use Rattle.grid_board.proofs.Within.{inside_facts}
-use Rattle.grid_board.proofs.Marks.{cond_or, length-raised, marked_set, one_same, one_true}
+use Rattle.grid_board.proofs.Marks.{cond_or, length-flagged, marked_set, one_same, one_true}
 use Rattle.grid_board.proofs.Ways.{doubled_inside, first_holds, middle_inside, rest_holds}
 
 cond_and : (t x : Bool) → cond t false x ≡ (not t && x)
@@ -34,20 +34,34 @@ one_turned p q = ap₂ (λ s t. s && t) (int_eq-turned p.x q.x) (int_eq-turned p
 pub record AreInside (b : Bounds) (ps : List GridPoint) : Type 0 where
   pub each : list_all (contains b) ps ≡ true
 
-or_moved : (s t x : Bool) → (s || (t || x)) ≡ ((t || s) || x)
-or_moved true true x = refl
-or_moved true false x = refl
-or_moved false true x = refl
-or_moved false false x = refl
+cond_twice : (s t v x : Bool) → cond s v (cond t v x) ≡ cond (t || s) v x
+cond_twice true true v x = refl
+cond_twice true false v x = refl
+cond_twice false true v x = refl
+cond_twice false false v x = refl
 
-pub marked_raised : (b : Bounds) (ps : List GridPoint) (flags : List Bool) (d : GridPoint) → length flags ≡ cells_of b → list_all (contains b) ps ≡ true →
-    is_marked b (raised b flags ps) d ≡ (is_among ps d || is_marked b flags d)
-marked_raised b [] flags d each all = refl
-marked_raised b (p ∷ ps) flags d each all =
+pub marked_flagged : (b : Bounds) (v : Bool) (ps : List GridPoint) (flags : List Bool) (d : GridPoint) → length flags ≡ cells_of b → list_all (contains b) ps ≡ true →
+    is_marked b (flagged b v flags ps) d ≡ cond (is_among ps d) v (is_marked b flags d)
+marked_flagged b v [] flags d each all = refl
+marked_flagged b v (p ∷ ps) flags d each all =
     let parts = and_parts (contains b p) (list_all (contains b) ps) all in
-    marked_raised b ps (set flags (cell_of b p) true) d (length-set flags (cell_of b p) true ∙ each) parts.1
-    ∙ ap (λ t. is_among ps d || t) (marked_set b flags p true d each (inside_facts b p parts.0) ∙ cond_or (are_one p d) (is_marked b flags d) ∙ ap (λ t. t || is_marked b flags d) (one_turned p d))
-    ∙ or_moved (is_among ps d) (are_one d p) (is_marked b flags d)
+    marked_flagged b v ps (set flags (cell_of b p) v) d (length-set flags (cell_of b p) v ∙ each) parts.1
+    ∙ ap (cond (is_among ps d) v) (marked_set b flags p v d each (inside_facts b p parts.0) ∙ ap (λ t. cond t v (is_marked b flags d)) (one_turned p d))
+    ∙ cond_twice (is_among ps d) (are_one d p) v (is_marked b flags d)
+
+-- flags with that of a point raised where that is kept
+abbrev pub kept_flags : Bounds → GridPoint → Bool → List Bool → List Bool
+kept_flags b p is_kept flags = cond is_kept (flagged (doubled_bounds b) true flags (doubled p ∷ [])) flags
+
+pub marked_kept : (b : Bounds) (flags : List Bool) (p : GridPoint) (is_kept : Bool) (d : GridPoint) → length flags ≡ cells_of (doubled_bounds b) → contains b p ≡ true →
+    is_marked (doubled_bounds b) (cond is_kept (flagged (doubled_bounds b) true flags (doubled p ∷ [])) flags) d ≡ with_kept is_kept p (is_marked (doubled_bounds b) flags) d
+marked_kept b flags p false d each inside = refl
+marked_kept b flags p true d each inside =
+    marked_set (doubled_bounds b) flags (doubled p) true d each (inside_facts (doubled_bounds b) (doubled p) (doubled_inside b p inside)) ∙ cond_or (are_one (doubled p) d) (is_marked (doubled_bounds b) flags d)
+
+pub length-kept : (b : Bounds) (flags : List Bool) (p : GridPoint) (is_kept : Bool) → length (cond is_kept (flagged (doubled_bounds b) true flags (doubled p ∷ [])) flags) ≡ length flags
+length-kept b flags p false = refl
+length-kept b flags p true = length-set flags (cell_of (doubled_bounds b) (doubled p)) true
 
 -- the doubled points of a walk on the board lie within its doubled bounds
 pub taken_inside : (b : Bounds) (p : GridPoint) (ds : List Dir) → list_all (contains b) (points_from p ds) ≡ true → list_all (contains (doubled_bounds b)) (doubled_from p ds) ≡ true
@@ -282,12 +296,61 @@ shown_moved b from to each inside to_inside = λ i. record {
 }
 
 pub shown_walk : (b : BoardFlags) (w : PlainWalk) → length b.taken ≡ cells_of (doubled_bounds b.bounds) → list_all (contains b.bounds) (points_of w) ≡ true →
-    parts_of (record { bounds = b.bounds; nodes = b.nodes; taken = raised (doubled_bounds b.bounds) b.taken (doubled_of w) }) ≡ with_walk (parts_of b) w
+    parts_of (record { bounds = b.bounds; nodes = b.nodes; taken = flagged (doubled_bounds b.bounds) true b.taken (doubled_of w) }) ≡ with_walk (parts_of b) w
 unfolding parts_of
 shown_walk b w each inside = λ i. record {
   bounds = b.bounds;
   is_node = is_marked b.bounds b.nodes;
-  is_taken = λ d. (marked_raised (doubled_bounds b.bounds) (doubled_of w) b.taken d each (taken_inside b.bounds w.start w.steps inside)) i;
+  is_taken = λ d. (marked_flagged (doubled_bounds b.bounds) true (doubled_of w) b.taken d each (taken_inside b.bounds w.start w.steps inside) ∙ cond_or (is_among (doubled_of w) d) (is_marked (doubled_bounds b.bounds) b.taken d)) i;
+}
+
+-- the flags of doubled points after a walk was taken away, but for its kept ends
+abbrev pub freed : BoardFlags → PlainWalk → Bool → Bool → List Bool
+freed b w keeps_start keeps_end =
+    kept_flags b.bounds (end_point w) keeps_end (kept_flags b.bounds w.start keeps_start (flagged (doubled_bounds b.bounds) false b.taken (doubled_of w)))
+
+pub freed_by : (b : BoardFlags) (w : PlainWalk) (s e : Bool) (start end : GridPoint) (none started ended : List Bool) → none ≡ flagged (doubled_bounds b.bounds) false b.taken (doubled_of w) → start ≡ w.start →
+    started ≡ cond s (flagged (doubled_bounds b.bounds) true none (doubled start ∷ [])) none → end ≡ end_point w →
+    ended ≡ cond e (flagged (doubled_bounds b.bounds) true started (doubled end ∷ [])) started → ended ≡ freed b w s e
+freed_by b w s e start end none started ended cleared at_start first at_end last =
+    last
+    ∙ ap₂ (λ (p : GridPoint) (fs : List Bool). kept_flags b.bounds p e fs) at_end
+    (first ∙ ap₂ (λ (p : GridPoint) (fs : List Bool). kept_flags b.bounds p s fs) at_start cleared)
+
+pub shown_freed : (b : BoardFlags) (w : PlainWalk) (s e : Bool) → length b.taken ≡ cells_of (doubled_bounds b.bounds) → list_all (contains b.bounds) (points_of w) ≡ true →
+    contains b.bounds (end_point w) ≡ true → parts_of (record { bounds = b.bounds; nodes = b.nodes; taken = freed b w s e }) ≡ without_walk (parts_of b) w s e
+unfolding parts_of
+shown_freed b w s e each inside end = λ i. record {
+  bounds = b.bounds;
+  is_node = is_marked b.bounds b.nodes;
+  is_taken = λ d. (marked_kept b.bounds started (end_point w) e d length_started end ∙ ap (λ t. (e && are_one (doubled (end_point w)) d) || t) (marked_kept b.bounds none w.start s d length_none start ∙ ap (λ t. (s && are_one (doubled w.start) d) || t) (cleared d))) i;
+}
+  where
+    none : List Bool
+    none = flagged (doubled_bounds b.bounds) false b.taken (doubled_of w)
+
+    length_none : length none ≡ cells_of (doubled_bounds b.bounds)
+    length_none = length-flagged (doubled_bounds b.bounds) false (doubled_of w) b.taken ∙ each
+
+    started : List Bool
+    started = kept_flags b.bounds w.start s none
+
+    length_started : length started ≡ cells_of (doubled_bounds b.bounds)
+    length_started = length-kept b.bounds none w.start s ∙ length_none
+
+    start : contains b.bounds w.start ≡ true
+    start = first_holds (contains b.bounds) w.start w.steps inside
+
+    cleared : (d : GridPoint) → is_marked (doubled_bounds b.bounds) none d ≡ (not (is_among (doubled_of w) d) && is_marked (doubled_bounds b.bounds) b.taken d)
+    cleared d = marked_flagged (doubled_bounds b.bounds) false (doubled_of w) b.taken d each (taken_inside b.bounds w.start w.steps inside) ∙ cond_and (is_among (doubled_of w) d) (is_marked (doubled_bounds b.bounds) b.taken d)
+
+pub shown_lifted : (b : BoardFlags) (at : GridPoint) → length b.nodes ≡ cells_of b.bounds → contains b.bounds at ≡ true →
+    parts_of (record { bounds = b.bounds; nodes = set b.nodes (cell_of b.bounds at) false; taken = b.taken }) ≡ without_node (parts_of b) at
+unfolding parts_of
+shown_lifted b at each inside = λ i. record {
+  bounds = b.bounds;
+  is_node = λ p. (marked_set b.bounds b.nodes at false p each (inside_facts b.bounds at inside) ∙ cond_and (are_one at p) (is_marked b.bounds b.nodes p)) i;
+  is_taken = is_marked (doubled_bounds b.bounds) b.taken;
 }
 
 get_or-lowered : (n k : ℕ) → get_or (replicate n false) k false ≡ false
@@ -325,11 +388,38 @@ kept_moved b from to h inside to_inside shown even = record {
 }
 
 pub kept_walk : (b : BoardFlags) (w : PlainWalk) → IsKept b → list_all (contains b.bounds) (points_of w) ≡ true →
-    IsKept (record { bounds = b.bounds; nodes = b.nodes; taken = raised (doubled_bounds b.bounds) b.taken (doubled_of w) })
+    IsKept (record { bounds = b.bounds; nodes = b.nodes; taken = flagged (doubled_bounds b.bounds) true b.taken (doubled_of w) })
 kept_walk b w h inside = record {
   points = h.points;
-  doubled_points = length-raised (doubled_bounds b.bounds) (doubled_of w) b.taken ∙ h.doubled_points;
+  doubled_points = length-flagged (doubled_bounds b.bounds) true (doubled_of w) b.taken ∙ h.doubled_points;
   board = subst (λ (board : BoardParts). IsBoard board) (sym (shown_walk b w h.doubled_points inside)) (board_with_walk (parts_of b) w h.board);
+}
+
+pub kept_freed : (b : BoardFlags) (w : PlainWalk) (s e : Bool) → IsKept b → list_all (contains b.bounds) (points_of w) ≡ true → contains b.bounds (end_point w) ≡ true →
+    IsBoard (without_walk (parts_of b) w s e) → IsKept (record { bounds = b.bounds; nodes = b.nodes; taken = freed b w s e })
+kept_freed b w s e h inside end board = record {
+  points = h.points;
+  doubled_points =
+      length-kept b.bounds (kept_flags b.bounds w.start s (flagged (doubled_bounds b.bounds) false b.taken (doubled_of w))) (end_point w) e
+      ∙ length-kept b.bounds (flagged (doubled_bounds b.bounds) false b.taken (doubled_of w)) w.start s
+      ∙ length-flagged (doubled_bounds b.bounds) false (doubled_of w) b.taken
+      ∙ h.doubled_points;
+  board = subst (λ (x : BoardParts). IsBoard x) (sym (shown_freed b w s e h.doubled_points inside end)) board;
+}
+
+board_without_node : (board : BoardParts) (at : GridPoint) → IsBoard board → IsBoard (without_node board at)
+board_without_node board at h = record {
+  in_range = h.in_range;
+  nodes_inside = λ p e. h.nodes_inside p (and_parts (not (are_one at p)) (board.is_node p) e).1;
+  nodes_even = λ p e. h.nodes_even p (and_parts (not (are_one at p)) (board.is_node p) e).1;
+  ends_taken = h.ends_taken;
+}
+
+pub kept_lifted : (b : BoardFlags) (at : GridPoint) → IsKept b → contains b.bounds at ≡ true → IsKept (record { bounds = b.bounds; nodes = set b.nodes (cell_of b.bounds at) false; taken = b.taken })
+kept_lifted b at h inside = record {
+  points = length-set b.nodes (cell_of b.bounds at) false ∙ h.points;
+  doubled_points = h.doubled_points;
+  board = subst (λ (board : BoardParts). IsBoard board) (sym (shown_lifted b at h.points inside)) (board_without_node (parts_of b) at h.board);
 }
 
 pub kept_empty : (b : Bounds) → AreBounds b → IsKept (record { bounds = b; nodes = replicate (cells_of b) false; taken = replicate (cells_of (doubled_bounds b)) false })

@@ -13,9 +13,9 @@ use Rattle.octi_grid.proofs.WayLemmas.{after-append}
 use Rattle.octi_grid.proofs.RunLemmas.{list_all-drop, no_run, steps_of-drop}
 use Rattle.grid_board.specs.declared.bounds.Bounds.{Bounds}
 use Rattle.grid_board.specs.Boards.{AreBounds, contains, doubled_bounds}
-use Rattle.grid_board.specs.Taking.{behind, raised}
+use Rattle.grid_board.specs.Taking.{behind, flagged}
 use Rattle.grid_board.proofs.Within.{inside_facts, inside_test}
-use Rattle.grid_board.proofs.Marks.{raised-append}
+use Rattle.grid_board.proofs.Marks.{flagged-append}
 
 -- a point of a board lies within what a step or a doubled point needs
 pub within_board : (b : Bounds) (p : GridPoint) → AreBounds b → contains b p ≡ true → IsWithin p
@@ -62,6 +62,10 @@ first_holds test p (d ∷ ds) h = (and_parts (test p) (list_all test (points_fro
 pub rest_holds : (test : GridPoint → Bool) (p : GridPoint) (d : Dir) (ds : List Dir) → list_all test (points_from p (d ∷ ds)) ≡ true → list_all test (points_from (step_from p d) ds) ≡ true
 rest_holds test p d ds h = (and_parts (test p) (list_all test (points_from (step_from p d) ds)) h).1
 
+pub last_holds : (test : GridPoint → Bool) (p : GridPoint) (ds : List Dir) → list_all test (points_from p ds) ≡ true → test (after p ds) ≡ true
+last_holds test p [] all = first_holds test p [] all
+last_holds test p (d ∷ ds) all = last_holds test (step_from p d) ds (rest_holds test p d ds all)
+
 pub holds_along : (test : GridPoint → Bool) (p : GridPoint) (d : Dir) (n m : ℕ) → n ≤ m → list_all test (points_from p (replicate m d)) ≡ true → test (after p (replicate n d)) ≡ true
 holds_along test p d zero m h all = first_holds test p (replicate m d) all
 holds_along test p d (suc n) zero h all = absurd (omega arith)
@@ -79,28 +83,28 @@ pub doubled_from-behind : (p : GridPoint) (ds : List Dir) → doubled_from p ds 
 doubled_from-behind p [] = refl
 doubled_from-behind p (d ∷ ds) = ap (λ ps. doubled p ∷ step_from (doubled p) d ∷ ps) (doubled_from-behind (step_from p d) ds)
 
-pub raised_more : (b : Bounds) (flags now new : List Bool) (p at : GridPoint) (n : ℕ) (d : Dir) → now ≡ raised b flags (behind p (replicate n d)) → at ≡ after p (replicate n d) →
-    new ≡ raised b now (behind at (d ∷ [])) → new ≡ raised b flags (behind p (replicate (n + 1) d))
-raised_more b flags now new p at n d before here step =
+pub flagged_more : (b : Bounds) (v : Bool) (flags now new : List Bool) (p at : GridPoint) (n : ℕ) (d : Dir) → now ≡ flagged b v flags (behind p (replicate n d)) → at ≡ after p (replicate n d) →
+    new ≡ flagged b v now (behind at (d ∷ [])) → new ≡ flagged b v flags (behind p (replicate (n + 1) d))
+flagged_more b v flags now new p at n d before here step =
     step
-    ∙ ap (λ fs. raised b fs (behind at (d ∷ []))) before
-    ∙ ap (λ q. raised b (raised b flags (behind p (replicate n d))) (behind q (d ∷ []))) here
-    ∙ sym (raised-append b (behind p (replicate n d)) (behind (after p (replicate n d)) (d ∷ [])) flags)
-    ∙ ap (raised b flags) (sym (behind-append p (replicate n d) (d ∷ [])))
-    ∙ ap (λ ds. raised b flags (behind p ds)) (replicate_more n d)
+    ∙ ap (λ fs. flagged b v fs (behind at (d ∷ []))) before
+    ∙ ap (λ q. flagged b v (flagged b v flags (behind p (replicate n d))) (behind q (d ∷ []))) here
+    ∙ sym (flagged-append b v (behind p (replicate n d)) (behind (after p (replicate n d)) (d ∷ [])) flags)
+    ∙ ap (flagged b v flags) (sym (behind-append p (replicate n d) (d ∷ [])))
+    ∙ ap (λ ds. flagged b v flags (behind p ds)) (replicate_more n d)
 
 -- one run of the rest
-pub raised_run : (b : Bounds) (now new : List Bool) (at end : GridPoint) (rs : List Run) (i : ℕ) → i < length rs →
-    new ≡ raised b now (behind at (replicate (get_or rs i no_run).count (get_or rs i no_run).dir)) → end ≡ after at (replicate (get_or rs i no_run).count (get_or rs i no_run).dir) →
-    raised b new (behind end (steps_of (drop (i + 1) rs))) ≡ raised b now (behind at (steps_of (drop i rs)))
-raised_run b now new at end rs i h step here =
+pub flagged_run : (b : Bounds) (v : Bool) (now new : List Bool) (at end : GridPoint) (rs : List Run) (i : ℕ) → i < length rs →
+    new ≡ flagged b v now (behind at (replicate (get_or rs i no_run).count (get_or rs i no_run).dir)) → end ≡ after at (replicate (get_or rs i no_run).count (get_or rs i no_run).dir) →
+    flagged b v new (behind end (steps_of (drop (i + 1) rs))) ≡ flagged b v now (behind at (steps_of (drop i rs)))
+flagged_run b v now new at end rs i h step here =
     let run : List Dir = replicate (get_or rs i no_run).count (get_or rs i no_run).dir in
     let rest : List Dir = steps_of (drop (i + 1) rs) in
-    ap (λ fs. raised b fs (behind end rest)) step
-    ∙ ap (λ q. raised b (raised b now (behind at run)) (behind q rest)) here
-    ∙ sym (raised-append b (behind at run) (behind (after at run) rest) now)
-    ∙ ap (raised b now) (sym (behind-append at run rest))
-    ∙ ap (λ ds. raised b now (behind at ds)) (sym (steps_of-drop rs i h))
+    ap (λ fs. flagged b v fs (behind end rest)) step
+    ∙ ap (λ q. flagged b v (flagged b v now (behind at run)) (behind q rest)) here
+    ∙ sym (flagged-append b v (behind at run) (behind (after at run) rest) now)
+    ∙ ap (flagged b v now) (sym (behind-append at run rest))
+    ∙ ap (λ ds. flagged b v now (behind at ds)) (sym (steps_of-drop rs i h))
 
 pub run_holds : (test : GridPoint → Bool) (p : GridPoint) (rs : List Run) (i : ℕ) → i < length rs → list_all test (points_from p (steps_of (drop i rs))) ≡ true →
     list_all test (points_from p (replicate (get_or rs i no_run).count (get_or rs i no_run).dir)) ≡ true

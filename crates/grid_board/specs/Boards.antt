@@ -4,7 +4,7 @@ use Rattle.octi_grid.specs.declared.dir.Dir.{Dir}
 use Rattle.octi_grid.specs.declared.point.GridPoint.{GridPoint}
 use Rattle.octi_grid.specs.Ways.{are_one, doubled, step_from}
 use Rattle.octi_grid.specs.Costs.{step_cost}
-use Rattle.octi_grid.specs.Walks.{PlainWalk, doubled_of}
+use Rattle.octi_grid.specs.Walks.{PlainWalk, doubled_of, end_point}
 use Rattle.octi_grid.specs.Legal.{is_among, is_even}
 use Rattle.grid_board.specs.declared.bounds.Bounds.{Bounds}
 
@@ -41,6 +41,19 @@ with_walk board walk = record board { is_taken = λ d. is_among (doubled_of walk
 -- a board on which the node's point `from` has become `to`
 abbrev pub with_node_moved : BoardParts → GridPoint → GridPoint → BoardParts
 with_node_moved board from to = record board { is_node = λ p. are_one to p || (not (are_one from p) && board.is_node p) }
+
+-- a board without the node at a point
+abbrev pub without_node : BoardParts → GridPoint → BoardParts
+without_node board at = record board { is_node = λ p. not (are_one at p) && board.is_node p }
+
+-- the doubled point of a point is taken where that is kept, and else as it was
+abbrev pub with_kept : Bool → GridPoint → (GridPoint → Bool) → GridPoint → Bool
+with_kept is_kept p is_taken d = (is_kept && are_one (doubled p) d) || is_taken d
+
+-- a board without a walk, but for those of its ends that are kept
+abbrev pub without_walk : BoardParts → PlainWalk → Bool → Bool → BoardParts
+without_walk board walk keeps_start keeps_end =
+    record board { is_taken = with_kept keeps_end (end_point walk) (with_kept keeps_start walk.start (λ d. not (is_among (doubled_of walk) d) && board.is_taken d)) }
 
 -- a bound of a board lies within 2,000 either way
 pub record IsBound (z : ℤ) : Type 0 where

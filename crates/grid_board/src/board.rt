@@ -5,13 +5,13 @@ ghost use Rattle.std.specs.List.{list_all};
 ghost use Rattle.octi_grid.specs.Ways.{doubled};
 ghost use Rattle.octi_grid.specs.Walks.{points_of};
 ghost use Rattle.octi_grid.specs.Legal.{is_even};
-ghost use Rattle.grid_board.specs.Boards.{contains, doubled_bounds, empty_board, is_inside, parts_of, with_node, with_node_moved, with_walk, AreBounds, IsBoard, IsBound};
+ghost use Rattle.grid_board.specs.Boards.{contains, doubled_bounds, empty_board, is_inside, parts_of, with_node, with_node_moved, with_walk, without_node, without_walk, AreBounds, IsBoard, IsBound};
 
 use crate::bounds::Bounds;
-use crate::taking::take_walk;
+use crate::taking::{flag_walk, keep_point};
 use bit_flags::Flags;
 use map_base::NoMemory;
-use octi_grid::{GridPoint, Walk};
+use octi_grid::{GridPoint, Walk, end_of};
 use std::alloc::Global;
 use std::marker::Model;
 
@@ -101,7 +101,27 @@ impl Board {
         requires { list_all (is_inside (parts_of self.old)) (points_of walk.now) ≡ true }
         ensures { parts_of self.new ≡ with_walk (parts_of self.old) walk.now }
     {
-        take_walk(&mut self.taken, self.bounds, walk);
+        flag_walk(&mut self.taken, self.bounds, walk, true);
+    }
+
+    /// Takes the node off the board that stands at a point.
+    pub fn remove_node(&mut self, at: GridPoint)
+        requires { is_inside (parts_of self.old) at ≡ true }
+        ensures { parts_of self.new ≡ without_node (parts_of self.old) at }
+    {
+        let cell = self.bounds.cell_of(at) as usize;
+        self.nodes[cell] = false;
+    }
+
+    /// Frees the doubled points of a walk, but for those of its ends that other walks keep taken.
+    pub fn remove_walk(&mut self, walk: &Walk, keeps_start: bool, keeps_end: bool)
+        requires inside { list_all (is_inside (parts_of self.old)) (points_of walk.now) ≡ true }
+        requires board { IsBoard (without_walk (parts_of self.old) walk.now keeps_start keeps_end) }
+        ensures { parts_of self.new ≡ without_walk (parts_of self.old) walk.now keeps_start keeps_end }
+    {
+        flag_walk(&mut self.taken, self.bounds, walk, false);
+        keep_point(&mut self.taken, self.bounds, walk.start(), keeps_start);
+        keep_point(&mut self.taken, self.bounds, end_of(walk), keeps_end);
     }
 
     /// The bounds of the board.

@@ -41,7 +41,7 @@ clockwise_rest d low (e ∷ ds) r =
     rising_turned d e (clockwise_from d e) 0 ds (omega arith) parts.1
 
 -- fewer ports of clockwise ones are clockwise
-abbrev IsSameOrNone : Option Dir → Option Dir → Type 0
+abbrev pub IsSameOrNone : Option Dir → Option Dir → Type 0
 IsSameOrNone o p = (o ≡ None) ⊎ (o ≡ p)
 
 rising_fewer : (f h : SegId → Option Dir) (first : Dir) (xs : List SegId) → ((s : SegId) → IsSameOrNone (f s) (h s)) → (low less : ℕ) → less ≤ low → are_rising low (map (clockwise_from first) (filter_map h xs)) ≡ true →
@@ -67,7 +67,7 @@ rising_fewer f h first (x ∷ xs) same low less k r = of_port (f x) (h x) (same 
         (and_from (ltb less (clockwise_from first d)) (are_rising (clockwise_from first d) (map (clockwise_from first) (filter_map f xs))) (lt-ltb less (clockwise_from first d) (omega arith))
         (rest (clockwise_from first d) (clockwise_from first d) (omega arith) parts.1))
 
-clockwise_fewer : (f h : SegId → Option Dir) (xs : List SegId) → ((s : SegId) → IsSameOrNone (f s) (h s)) → are_clockwise (filter_map h xs) ≡ true → are_clockwise (filter_map f xs) ≡ true
+pub clockwise_fewer : (f h : SegId → Option Dir) (xs : List SegId) → ((s : SegId) → IsSameOrNone (f s) (h s)) → are_clockwise (filter_map h xs) ≡ true → are_clockwise (filter_map f xs) ≡ true
 clockwise_fewer f h [] same r = refl
 clockwise_fewer f h (x ∷ xs) same r = of_port (f x) (h x) (same x) r (clockwise_fewer f h xs same)
   where

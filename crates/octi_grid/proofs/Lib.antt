@@ -10,4 +10,4 @@ mod SweepLemmas
 mod CheckLemmas
 mod CheckSteps
 pub mod PortsLemmas
-mod Fronts
+pub mod Fronts

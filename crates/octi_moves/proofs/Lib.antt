@@ -2,7 +2,6 @@ pub mod Nearer
 mod BoundParts
 mod FieldFacts
 mod FieldUse
-mod FewerPorts
 mod KeptWalks
 mod Copies
 mod Trails

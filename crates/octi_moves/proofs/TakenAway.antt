@@ -1,5 +1,5 @@
 -- A node that stands at a free point, with the walks at it taken away: what routing begins with there.
-use Rattle.std.proofs.Common.{◌≡◌, ◌∙◌, ℕ, zero, suc, ◌+◌, ◌≤◌, ◌<◌, true, false, not, ◌||◌, eqb, pos, List, [], ◌∷◌, length, get_or, slice_get, Some, None, sym, ap, subst, arith, ◌⊎◌, inl, inr}
+use Rattle.std.proofs.Common.{◌≡◌, ◌∙◌, ℕ, ◌+◌, ◌≤◌, ◌<◌, true, false, not, ◌||◌, eqb, pos, List, [], length, get_or, slice_get, Some, None, sym, ap, subst, arith, ◌⊎◌, inl, inr}
 use Rattle.std.specs.List.{list_all, range_with_len, filter_map}
 use Rattle.std.proofs.lemmas.Bool.{and_from, and_parts, cases_eq, cases_lt, eqb-true, eq-eqb, ne_eqb, not-true, or_cases, or_left, or_right, true≢false}
 use Rattle.std.proofs.lemmas.List.{get_or_default, get_or-replicate, get_or-set_other, get_or-set_same, length-replicate, length-set}
@@ -10,18 +10,17 @@ use Rattle.map_base.specs.declared.ids.SegId.{SegId}
 use Rattle.graph_core.specs.declared.parts.GraphParts.{GraphParts}
 use Rattle.graph_core.specs.Consistent.{IsConsistent}
 use Rattle.graph_core.specs.Round.{ends_at}
-use Rattle.octi_grid.specs.declared.dir.Dir.{Dir}
 use Rattle.octi_grid.specs.declared.point.GridPoint.{GridPoint}
-use Rattle.octi_grid.specs.Ways.{doubled, doubled_from, points_from, step_from}
+use Rattle.octi_grid.specs.Ways.{doubled}
 use Rattle.octi_grid.specs.Walks.{doubled_of, end_point, points_of, PlainWalk}
-use Rattle.octi_grid.specs.Legal.{all_apart, are_apart, are_clockwise, is_among, is_even, legs_of, port_of, port_where, puts_by, Leg, Put}
+use Rattle.octi_grid.specs.Legal.{are_clockwise, is_among, is_even, legs_of, port_of, port_where, puts_by, Leg, Put}
 use Rattle.octi_grid.proofs.LegalLemmas.{some_or_none}
 use Rattle.octi_grid.proofs.MeetsLemmas.{apart_at, CommonEnd}
 use Rattle.octi_grid.proofs.PortsLemmas.{ports_at_node}
 use Rattle.octi_grid.proofs.Members.{all_at, all_from, among_from, any_from, are_one_from, in_flat_map, In}
 use Rattle.grid_board.specs.declared.bounds.Bounds.{Bounds}
 use Rattle.grid_board.specs.Boards.{contains, empty_board, AreBounds, IsBoard}
-use Rattle.walk_search.proofs.FreeWalks.{never_middle, same_doubled}
+use Rattle.segment_router.proofs.ClearNodes.{undoubled}
 use Rattle.segment_router.specs.Routes.{ends_of, is_settled, node_point, port_at_node, port_by, walk_at, with_nodes, Routed}
 use Rattle.segment_router.specs.Underway.{IsUnderway}
 use Rattle.segment_router.proofs.Beginning.{bounds_stay, homes_are_nodes}
@@ -31,10 +30,10 @@ use Rattle.segment_router.proofs.LegalRoutes.{board_with_nodes, empty_fits}
 use Rattle.segment_router.proofs.Places.{all_in, in_at}
 use Rattle.drawing_weights.specs.Weights.{point_of}
 use Rattle.drawing_weights.specs.Drawn.{IsDrawn, points_all}
-use Rattle.drawing_weights.proofs.DrawnFacts.{leg_in, leg_of_walk, low_put, meets_fit, node_apart, node_even, node_holds, parts_of_legal, put_at, put_point, up_put, PutAt}
+use Rattle.drawing_weights.proofs.DrawnFacts.{apart_between, leg_place, leg_in, leg_of_walk, low_put, meets_fit, node_apart, node_even, node_holds, parts_of_legal, put_at, put_point, up_put, PutAt}
 use Rattle.octi_moves.specs.Moves.{is_in_the_way, is_other_node, kept_walks, may_stand, taken_away}
 use Rattle.octi_moves.specs.Standing.{stay_within}
-use Rattle.octi_moves.proofs.FewerPorts.{clockwise_fewer, IsSameOrNone}
+use Rattle.octi_grid.proofs.Fronts.{clockwise_fewer, IsSameOrNone}
 use Rattle.octi_moves.proofs.KeptWalks.{kept_at, kept_each, nodes_stay, same_bounds, standing_board, takes_doubled, Kept}
 
 abbrev origin : GridPoint
@@ -46,40 +45,12 @@ in_range n m h =
     let there : get_or (range_with_len 0 n) m 0 ≡ m = get_or-range_with_len 0 n m 0 h ∙ omega arith in
     subst (λ k. In k (range_with_len 0 n)) there (in_at (range_with_len 0 n) m 0 (omega (arith, h, length-range_with_len 0 n)))
 
--- legs by their places
-pub leg_place : (es : List (NodeId × NodeId)) (ws : List PlainWalk) (i : ℕ) (e : NodeId × NodeId) (w : PlainWalk) → slice_get es i ≡ Some e → slice_get ws i ≡ Some w → slice_get (legs_of es ws) i ≡ Some (let l : Leg = (e, w) in l)
-leg_place [] ws i e w h k = cc
-leg_place (f ∷ es) [] i e w h k = cc
-leg_place (f ∷ es) (v ∷ ws) zero e w h k = let one : f ≡ e = cc in let other : v ≡ w = cc in ap (λ (x : NodeId × NodeId). Some (let l : Leg = (x, v) in l)) one ∙ ap (λ (x : PlainWalk). Some (let l : Leg = (e, x) in l)) other
-leg_place (f ∷ es) (v ∷ ws) (suc i) e w h k = leg_place es ws i e w h k
-
-in_place : (legs : List Leg) (i : ℕ) (l : Leg) → slice_get legs i ≡ Some l → In l legs
-in_place [] i l e = cc
-in_place (m ∷ legs) zero l e = let same : l ≡ m = cc in inl same
-in_place (m ∷ legs) (suc i) l e = inr (in_place legs i l e)
-
-apart_between : (legs : List Leg) (i j : ℕ) (l m : Leg) → all_apart legs ≡ true → i < j → slice_get legs i ≡ Some l → slice_get legs j ≡ Some m → are_apart l m ≡ true
-apart_between [] i j l m a h e f = cc
-apart_between (k ∷ legs) i zero l m a h e f = absurd (omega (arith, h))
-apart_between (k ∷ legs) zero (suc j) l m a h e f =
-    let same : k ≡ l = cc in
-    subst (λ (x : Leg). are_apart x m ≡ true) same (all_at (are_apart k) legs m (and_parts (list_all (are_apart k) legs) (all_apart legs) a).0 (in_place legs j m f))
-apart_between (k ∷ legs) (suc i) (suc j) l m a h e f = apart_between legs i j l m (and_parts (list_all (are_apart k) legs) (all_apart legs) a).1 (omega (arith, h)) e f
-
 lt_from_ne : (a b : ℕ) → a ≤ b → (a ≡ b → ⊥) → a < b
 lt_from_ne a b h f = by_order (cases_lt a b)
   where
     by_order : (a < b) ⊎ (b ≤ a) → a < b
     by_order (inl k) = k
     by_order (inr k) = let same : a ≡ b = omega (arith, h, k) in absurd (f same)
-
--- a doubled point of a way that is a point twice is one of its grid points
-undoubled : (q p : GridPoint) (ds : List Dir) → In (doubled q) (doubled_from p ds) → In q (points_from p ds)
-undoubled q p [] (inl e) = inl (same_doubled q p e)
-undoubled q p [] (inr m) = absurd m
-undoubled q p (d ∷ ds) (inl e) = inl (same_doubled q p e)
-undoubled q p (d ∷ ds) (inr (inl e)) = absurd (never_middle q p d e)
-undoubled q p (d ∷ ds) (inr (inr m)) = inr (undoubled q (step_from p d) ds m)
 
 module _ (graph : GraphParts) (fit : IsConsistent graph) (bounds : Bounds) (fits : AreBounds bounds) (walks : List PlainWalk) (drawn : IsDrawn graph walks) (within : stay_within bounds walks ≡ true) where
   pub node_inside : (m : ℕ) → m < length graph.kinds → contains bounds (point_of graph walks m) ≡ true

@@ -5,7 +5,7 @@ use Rattle.map_base.specs.declared.ids.SegId.{SegId}
 use Rattle.graph_core.specs.declared.parts.GraphParts.{GraphParts}
 use Rattle.octi_grid.specs.declared.dir.Dir.{Dir}
 use Rattle.octi_grid.specs.declared.point.GridPoint.{GridPoint}
-use Rattle.octi_grid.specs.Ways.{after, doubled, doubled_from, step_from}
+use Rattle.octi_grid.specs.Ways.{after, doubled, doubled_from, points_from, step_from}
 use Rattle.octi_grid.specs.Walks.{doubled_of, end_point, PlainWalk}
 use Rattle.octi_grid.proofs.Members.{any_from, In}
 use Rattle.walk_search.specs.Routes.{inner_points}
@@ -15,6 +15,14 @@ use Rattle.segment_router.specs.Routes.{ends_of, node_point, Routed}
 use Rattle.segment_router.proofs.SettledLemmas.{end_away, start_away, Goes}
 
 -- a doubled point of a way that is a point twice is one of its grid points
+pub undoubled : (q p : GridPoint) (ds : List Dir) → In (doubled q) (doubled_from p ds) → In q (points_from p ds)
+undoubled q p [] (inl e) = inl (same_doubled q p e)
+undoubled q p [] (inr m) = absurd m
+undoubled q p (d ∷ ds) (inl e) = inl (same_doubled q p e)
+undoubled q p (d ∷ ds) (inr (inl e)) = absurd (never_middle q p d e)
+undoubled q p (d ∷ ds) (inr (inr m)) = inr (undoubled q (step_from p d) ds m)
+
+-- the same, by the points between its ends
 on_way : (q p : GridPoint) (ds : List Dir) → In (doubled q) (doubled_from p ds) → (q ≡ p) ⊎ (In q (inner_from p ds) ⊎ (q ≡ after p ds))
 on_way q p [] (inl e) = inl (same_doubled q p e)
 on_way q p [] (inr m) = absurd m

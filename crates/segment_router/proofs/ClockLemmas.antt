@@ -1,5 +1,5 @@
 -- Ports that are spaced stand clockwise, and the bit of an allowed port tells that it is allowed.
-use Rattle.std.proofs.Common.{◌≡◌, ℕ, ◌+◌, ◌-◌, ◌%◌, ◌<◌, ◌≤◌, Bool, true, false, cond, eqb, leb, ◌&&◌, List, [], ◌∷◌, map, Option, Some, None, sym, refl, ap, ◌∙◌, arith, inl, inr}
+use Rattle.std.proofs.Common.{◌≡◌, ℕ, ◌+◌, ◌-◌, ◌%◌, ◌<◌, ◌≤◌, Bool, true, false, cond, not, eqb, leb, ◌&&◌, List, [], ◌∷◌, map, Option, Some, None, sym, refl, ap, ◌∙◌, arith, inl, inr}
 use Rattle.std.proofs.lemmas.Bool.{and_from, and_parts, eqb-true, lt-ltb, false≢true}
 use Rattle.std.specs.Int.{bit_at}
 use Rattle.std.specs.List.{cons_option, filter_map, list_all}
@@ -96,9 +96,9 @@ each_at : (p : Bool → Bool) → each p ≡ true → (b : Bool) → p b ≡ tru
 each_at p e true = (and_parts _ _ e).0
 each_at p e false = (and_parts _ _ e).1
 
--- a bit that is set tells that the test holds
+-- a bit is set where the test holds
 abbrev bits_tell : (Dir → Bool) → Bool
-bits_tell t = list_all (λ (d : Dir). cond (eqb (bit_at (mask_of t) (number_of d)) 1) (t d) true) directions
+bits_tell t = list_all (λ (d : Dir). cond (eqb (bit_at (mask_of t) (number_of d)) 1) (t d) (not (t d))) directions
 
 all_bits : each (λ a. each (λ b. each (λ c. each (λ d. each (λ e. each (λ f. each (λ g. each (λ h. bits_tell (test_of a b c d e f g h))))))))) ≡ true
 all_bits = refl
@@ -135,17 +135,22 @@ told test dir.SW = refl
 told test dir.W = refl
 told test dir.NW = refl
 
-chosen_true : (b c : Bool) → cond b c true ≡ true → b ≡ true → c ≡ true
-chosen_true true c e h = e
-chosen_true false c e h = absurd (false≢true h)
+chosen_same : (b c : Bool) → cond b c (not c) ≡ true → b ≡ c
+chosen_same true true e = refl
+chosen_same true false e = absurd (false≢true e)
+chosen_same false true e = absurd (false≢true e)
+chosen_same false false e = refl
+
+pub bit_told : (test : Dir → Bool) (d : Dir) → eqb (bit_at (mask_of test) (number_of d)) 1 ≡ test d
+bit_told test d =
+    let t = test_of (test dir.N) (test dir.NE) (test dir.E) (test dir.SE) (test dir.S) (test dir.SW) (test dir.W) (test dir.NW) in
+    let tells : cond (eqb (bit_at (mask_of t) (number_of d)) 1) (t d) (not (t d)) ≡ true =
+    all_at (λ (v : Dir). cond (eqb (bit_at (mask_of t) (number_of v)) 1) (t v) (not (t v))) directions d
+    (bits_of (test dir.N) (test dir.NE) (test dir.E) (test dir.SE) (test dir.S) (test dir.SW) (test dir.W) (test dir.NW)) (in_directions d) in
+    ap (λ m. eqb (bit_at m (number_of d)) 1) (mask_agree test t (told test)) ∙ chosen_same (eqb (bit_at (mask_of t) (number_of d)) 1) (t d) tells ∙ sym (told test d)
 
 pub allowed_by_bit : (test : Dir → Bool) (d : Dir) → allows (mask_of test) (Some d) ≡ true → test d ≡ true
-allowed_by_bit test d e =
-    let t = test_of (test dir.N) (test dir.NE) (test dir.E) (test dir.SE) (test dir.S) (test dir.SW) (test dir.W) (test dir.NW) in
-    let tells : cond (eqb (bit_at (mask_of t) (number_of d)) 1) (t d) true ≡ true =
-    all_at (λ (v : Dir). cond (eqb (bit_at (mask_of t) (number_of v)) 1) (t v) true) directions d
-    (bits_of (test dir.N) (test dir.NE) (test dir.E) (test dir.SE) (test dir.S) (test dir.SW) (test dir.W) (test dir.NW)) (in_directions d) in
-    told test d ∙ chosen_true (eqb (bit_at (mask_of t) (number_of d)) 1) (t d) tells (ap (λ m. eqb (bit_at m (number_of d)) 1) (sym (mask_agree test t (told test))) ∙ e)
+allowed_by_bit test d e = sym (bit_told test d) ∙ e
 
 -- the port that a mask allows
 pub allowed_port : (test : Dir → Bool) (o : Option Dir) → allows (mask_of test) o ≡ true → (d : Dir) × (o ≡ Some d) × (test d ≡ true)

@@ -4,8 +4,8 @@ pub mod OrderLemmas
 mod AttemptLemmas
 pub mod RouteLemmas
 pub mod SettledLemmas
-mod MaskLemmas
-mod ClockLemmas
+pub mod MaskLemmas
+pub mod ClockLemmas
 pub mod RoutingLemmas
 mod OrderFacts
 pub mod Beginning

@@ -221,7 +221,7 @@ impl Routing {
 }
 
 /// The port of a walk at its start or at its end.
-fn port_of(walk: &Walk, at_start: bool) -> Dir
+pub fn port_of(walk: &Walk, at_start: bool) -> Dir
     ensures { (if at_start then start_port walk.now else end_port walk.now) ≡ Some result }
 {
     if at_start {
@@ -250,7 +250,7 @@ pub(crate) fn board_with(
 }
 
 /// No segment has a walk.
-fn no_walks(alloc: Global, segments: u32) -> Result<Vec<Option<Walk>>, NoMemory>
+pub fn no_walks(alloc: Global, segments: u32) -> Result<Vec<Option<Walk>>, NoMemory>
     ensures { IfOk result (λ walks. walks.items ≡ replicate segments None) }
 {
     let mut walks = Vec::new(alloc);
@@ -261,7 +261,7 @@ fn no_walks(alloc: Global, segments: u32) -> Result<Vec<Option<Walk>>, NoMemory>
 }
 
 /// Lists the port of a segment, if it has one.
-fn push_port(ports: &mut Vec<(SegId, Dir)>, s: SegId, port: Option<Dir>) -> Result<(), NoMemory>
+pub fn push_port(ports: &mut Vec<(SegId, Dir)>, s: SegId, port: Option<Dir>) -> Result<(), NoMemory>
     ensures { OnOk result (ports.new.items ≡ ports.old.items ++ with_known s port []) }
 {
     if let Some(port) = port {
@@ -271,7 +271,7 @@ fn push_port(ports: &mut Vec<(SegId, Dir)>, s: SegId, port: Option<Dir>) -> Resu
 }
 
 /// The walks of the segments that have their routes.
-pub(crate) fn into_walks(alloc: Global, walks: Vec<Option<Walk>>) -> Result<Vec<Walk>, NoMemory>
+pub fn into_walks(alloc: Global, walks: Vec<Option<Walk>>) -> Result<Vec<Walk>, NoMemory>
     ensures { IfOk result (λ kept. kept.items ≡ filter_map (λ w. w) walks.items) }
 {
     let mut kept = Vec::new(alloc);

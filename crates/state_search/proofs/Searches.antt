@@ -1,12 +1,12 @@
 -- A search keeps its state: where a cost is lowered, where a state is taken or followed, and at its end.
-use Rattle.std.proofs.Common.{◌≡◌, ◌≢◌, refl, sym, ◌∙◌, ap, subst, ℕ, suc, ◌+◌, ◌*◌, ◌<◌, ◌≤◌, ◌⊎◌, inl, inr, List, [], ◌∷◌, Option, Some, None, length, set, replicate, IsPermutation, arith, length-set}
-use Rattle.std.proofs.lemmas.Bool.{cases_eq}
+use Rattle.std.proofs.Common.{◌≡◌, ◌≢◌, refl, sym, ◌∙◌, ap, subst, ℕ, suc, ◌+◌, ◌*◌, ◌<◌, ◌≤◌, ◌⊎◌, inl, inr, List, [], ◌∷◌, Option, Some, None, length, min, set, replicate, IsPermutation, arith, length-set}
+use Rattle.std.proofs.lemmas.Bool.{cases_eq, cases_lt}
 use Rattle.std.proofs.lemmas.List.{length-replicate}
 use Rattle.std.proofs.lemmas.List.Sorted.{IsPermutation-sym, length_permutation}
 use Rattle.std.specs.declared.cmp.Reverse.{Reverse}
 use Rattle.least_path.specs.Orders.{AtMost}
 use Rattle.state_search.specs.Goals.{Space, PathTo, IsSpace}
-use Rattle.state_search.specs.Searching.{known_at, entry, Waits, IsBeyond, unknowns_of, height_of, left_of, IsFollowed, IsSearch, HasGoals, is_state_at, nothing, IsFound, IsSearched}
+use Rattle.state_search.specs.Searching.{known_at, entry, Waits, IsBeyond, unknowns_of, height_of, left_of, IsFollowed, IsSearch, HasGoals, is_state_at, nothing, IsFound, IsSearched, IsKnownWithin, IsSearchedUpTo, lesser_limit}
 use Rattle.state_search.proofs.Paths.{least_when_closed}
 use Rattle.state_search.proofs.Tables.{known_at-same, known_at-other, AtMost-lowered, unknowns_of-first, unknowns_of-again, unknowns_of-le, below_known, height_of-lowered, Waits-pushed, Waits-new, Waits-cases, known_at-none}
 
@@ -214,6 +214,24 @@ search_begins w = record {
     not_known : (s k : ℕ) → known_at (replicate w.count None) s ≡ Some k → ⊥
     not_known s k e = let clash : None ≡ Some k = sym (known_at-none w.count s) ∙ e in cc
 
+-- numbers and limits
+lesser_low : (d most k : ℕ) → d ≤ most → min d most < k → d < k
+lesser_low d most k low h = omega arith
+
+lesser_high : (d most k : ℕ) → most < d → min d most < k → most < k
+lesser_high d most k high h = omega arith
+
+-- where all that waits is beyond a bound, no path within it costs less than what is known
+pub least_within : (w : Space) → IsSpace w → (bound : ℕ) (table : List (Option ℕ)) (queue : List (Reverse (ℕ × ℕ))) → IsSearch w table queue nothing → HasGoals w table →
+    ((s k : ℕ) → Waits queue s k → bound < k) → (a : ℕ) (labels : List ℕ) (k : ℕ) → k + w.ahead a ≤ bound → PathTo w a labels k → AtMost (known_at table a) k
+least_within w space bound table queue s goals beyond a labels k within path =
+    least_when_closed w space bound (known_at table) (λ b j inside end. goals b j end) (λ b p l c d step is inside. closed b p l c d step inside (s.settled p d is)) a labels k within path
+  where
+    closed : (a p l c d : ℕ) → w.step a l p c → d + w.ahead p ≤ bound → Waits queue p (d + w.ahead p) ⊎ (IsFollowed w table p d ⊎ nothing p d) → AtMost (known_at table a) (c + d)
+    closed a p l c d step inside (inl v) = let above : bound < d + w.ahead p = beyond p (d + w.ahead p) v in absurd (omega arith)
+    closed a p l c d step inside (inr (inl f)) = f a l c step
+    closed a p l c d step inside (inr (inr x)) = absurd x
+
 -- a search is over where all that waits is beyond the known cost of a state that nothing lies ahead of
 pub search_ends : (w : Space) → IsSpace w → (from : ℕ) (table : List (Option ℕ)) (queue : List (Reverse (ℕ × ℕ))) → w.ahead from ≡ 0 →
     IsSearch w table queue nothing → HasGoals w table → ((s k : ℕ) → Waits queue s k → IsBeyond (known_at table from) k) → IsSearched w from table
@@ -222,23 +240,54 @@ search_ends w space from table queue at_start s goals beyond = (s.each, of_known
     of_known : (o : Option ℕ) → known_at table from ≡ o → IsFound w from table o
     of_known None e = λ labels k path.
         subst (λ (o : Option ℕ). AtMost o k) e
-        (least_when_closed w space (k + w.ahead from) (known_at table) (λ a j within end. goals a j end) (λ a p l c d step is within. closed a p l c d step (s.settled p d is)) from labels k (omega arith) path)
-      where
-        closed : (a p l c d : ℕ) → w.step a l p c → Waits queue p (d + w.ahead p) ⊎ (IsFollowed w table p d ⊎ nothing p d) → AtMost (known_at table a) (c + d)
-        closed a p l c d step (inl v) = absurd (subst (λ (o : Option ℕ). IsBeyond o (d + w.ahead p)) e (beyond p (d + w.ahead p) v))
-        closed a p l c d step (inr (inl f)) = f a l c step
-        closed a p l c d step (inr (inr x)) = absurd x
-    of_known (Some bound) e = record {
-      attained = s.attained;
-      least = λ a labels k within path.
-          least_when_closed w space bound (known_at table) (λ b j inside end. goals b j end) (λ b p l c d step is inside. closed b p l c d step inside (s.settled p d is)) a labels k within path;
+        (least_within w space (k + w.ahead from) table queue s goals (λ p j v. absurd (subst (λ (o : Option ℕ). IsBeyond o j) e (beyond p j v))) from labels k (omega arith) path)
+    of_known (Some bound) e = record { attained = s.attained; least = least_within w space bound table queue s goals (λ p j v. subst (λ (o : Option ℕ). IsBeyond o j) e (beyond p j v)) }
+
+-- it is over up to a limit where all that waits is beyond this cost or beyond the limit
+pub search_ends_at : (w : Space) → IsSpace w → (limit : Option ℕ) (from : ℕ) (table : List (Option ℕ)) (queue : List (Reverse (ℕ × ℕ))) → w.ahead from ≡ 0 →
+    IsSearch w table queue nothing → HasGoals w table → ((s k : ℕ) → Waits queue s k → IsBeyond (lesser_limit (known_at table from) limit) k) → IsSearchedUpTo limit w from table
+search_ends_at w space limit from table queue at_start s goals waits = of_both limit (known_at table from) refl waits
+  where
+    seen : (l o : Option ℕ) → known_at table from ≡ o → ((t k : ℕ) → Waits queue t k → IsBeyond (lesser_limit (known_at table from) l) k) → (t k : ℕ) → Waits queue t k → IsBeyond (lesser_limit o l) k
+    seen l o e beyond t k v = subst (λ (x : Option ℕ). IsBeyond (lesser_limit x l) k) e (beyond t k v)
+
+    whole : (o : Option ℕ) → known_at table from ≡ o → ((t k : ℕ) → Waits queue t k → IsBeyond o k) → IsSearched w from table
+    whole o e beyond = search_ends w space from table queue at_start s goals (λ t k v. subst (λ (x : Option ℕ). IsBeyond x k) (sym e) (beyond t k v))
+
+    least : (most : ℕ) → ((t k : ℕ) → Waits queue t k → most < k) → (labels : List ℕ) (k : ℕ) → PathTo w from labels k → k ≤ most → AtMost (known_at table from) k
+    least most beyond labels k path low = least_within w space most table queue s goals beyond from labels k (omega (arith, at_start)) path
+
+    of_low : (most d : ℕ) → known_at table from ≡ Some d → ((t k : ℕ) → Waits queue t k → min d most < k) → (most < d) ⊎ (d ≤ most) → IsSearchedUpTo (Some most) w from table
+    of_low most d e beyond (inr low) = record {
+      within = λ h. whole (Some d) e (λ t k v. lesser_low d most k low (beyond t k v));
+      beyond = λ h labels k path. absurd (h (subst (λ (x : Option ℕ). IsKnownWithin x (Some most)) (sym e) low));
+    }
+    of_low most d e beyond (inl high) = record {
+      within = λ h. let low : d ≤ most = subst (λ (x : Option ℕ). IsKnownWithin x (Some most)) e h in absurd (omega arith);
+      beyond = λ h labels k path. by_order labels k path (cases_lt most k);
     }
       where
-        closed : (a p l c d : ℕ) → w.step a l p c → d + w.ahead p ≤ bound → Waits queue p (d + w.ahead p) ⊎ (IsFollowed w table p d ⊎ nothing p d) → AtMost (known_at table a) (c + d)
-        closed a p l c d step inside (inl v) =
-            let above : bound < d + w.ahead p = subst (λ (o : Option ℕ). IsBeyond o (d + w.ahead p)) e (beyond p (d + w.ahead p) v) in absurd (omega arith)
-        closed a p l c d step inside (inr (inl f)) = f a l c step
-        closed a p l c d step inside (inr (inr x)) = absurd x
+        by_order : (labels : List ℕ) (k : ℕ) → PathTo w from labels k → (most < k) ⊎ (k ≤ most) → most < k
+        by_order labels k path (inl above) = above
+        by_order labels k path (inr below) =
+            let known : d ≤ k = subst (λ (x : Option ℕ). AtMost x k) e (least most (λ t j v. lesser_high d most j high (beyond t j v)) labels k path below) in omega arith
+
+    of_both : (l o : Option ℕ) → known_at table from ≡ o → ((t k : ℕ) → Waits queue t k → IsBeyond (lesser_limit (known_at table from) l) k) → IsSearchedUpTo l w from table
+    of_both None None e beyond =
+        let all = whole None e (seen None None e beyond) in
+        record { within = λ h. all; beyond = λ h labels k path. subst (IsFound w from table) e all.1 labels k path }
+    of_both None (Some d) e beyond =
+        let all = whole (Some d) e (seen None (Some d) e beyond) in
+        record { within = λ h. all; beyond = λ h labels k path. absurd (h (subst (λ (x : Option ℕ). IsKnownWithin x None) (sym e) tt)) }
+    of_both (Some most) None e beyond = record {
+      within = λ h. absurd (subst (λ (x : Option ℕ). IsKnownWithin x (Some most)) e h);
+      beyond = λ h labels k path. by_order labels k path (cases_lt most k);
+    }
+      where
+        by_order : (labels : List ℕ) (k : ℕ) → PathTo w from labels k → (most < k) ⊎ (k ≤ most) → most < k
+        by_order labels k path (inl above) = above
+        by_order labels k path (inr below) = absurd (subst (λ (x : Option ℕ). AtMost x k) e (least most (seen (Some most) None e beyond) labels k path below))
+    of_both (Some most) (Some d) e beyond = of_low most d e (seen (Some most) (Some d) e beyond) (cases_lt most d)
 
 -- what is taken from the queue was a number of a state
 pub taken_in_range : (w : Space) (table : List (Option ℕ)) (queue rest : List (Reverse (ℕ × ℕ))) (at e : ℕ) →

@@ -1,5 +1,5 @@
 -- A search for least costs to goals: what is known, what waits, and what is left to be followed.
-use Rattle.std.specs.Prelude.{◌≡◌, ℕ, ◌+◌, ◌*◌, ◌<◌, ◌≤◌, ◌⊎◌, List, [], ◌∷◌, Option, Some, None, length, Contains, IsPermutation, slice_index_or, slice_set, sum_by}
+use Rattle.std.specs.Prelude.{◌≡◌, ℕ, ◌+◌, ◌*◌, ◌<◌, ◌≤◌, ◌⊎◌, List, [], ◌∷◌, Option, Some, None, length, min, Contains, IsPermutation, slice_index_or, slice_set, sum_by}
 use Rattle.std.specs.declared.cmp.Ordering.{Ordering}
 use Rattle.std.specs.declared.cmp.Reverse.{Reverse}
 use Rattle.std.specs.Ordering.{nat_cmp, ordering_then}
@@ -110,3 +110,23 @@ IsFound w from table (Some cost) = AreLeastCostsTo w cost (known_at table)
 -- the search from a state is over
 abbrev pub IsSearched : Space → ℕ → List (Option ℕ) → Type 0
 IsSearched w from table = (length table ≡ w.count) × IsFound w from table (known_at table from)
+
+-- ---- searches up to a limit
+
+-- the lesser of two limits, as far as there are any
+abbrev pub lesser_limit : Option ℕ → Option ℕ → Option ℕ
+lesser_limit None b = b
+lesser_limit (Some a) None = Some a
+lesser_limit (Some a) (Some b) = Some (min a b)
+
+-- a cost is known, and within a limit, if there is one
+abbrev pub IsKnownWithin : Option ℕ → Option ℕ → Type 0
+IsKnownWithin None limit = ⊥
+IsKnownWithin (Some d) None = Unit {0}
+IsKnownWithin (Some d) (Some limit) = d ≤ limit
+
+-- the search from a state is over up to a limit: it is over where the cost of the state is known within the limit; else
+-- no path from it is
+pub record IsSearchedUpTo (limit : Option ℕ) (w : Space) (from : ℕ) (table : List (Option ℕ)) : Type 0 where
+  pub within : IsKnownWithin (known_at table from) limit → IsSearched w from table
+  pub beyond : (IsKnownWithin (known_at table from) limit → ⊥) → (labels : List ℕ) (k : ℕ) → PathTo w from labels k → IsBeyond limit k

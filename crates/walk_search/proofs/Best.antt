@@ -1,12 +1,12 @@
 -- The route is no worse than each free walk, however many steps that has.
-use Rattle.std.proofs.Common.{◌≡◌, refl, sym, ◌∙◌, ap, ap₂, subst, ℕ, ◌+◌, ◌<◌, ◌≤◌, ◌⊎◌, inl, inr, Bool, true, false, cond, nat_lt, ◌==◌, ◌&&◌, ◌||◌, List, [], ◌∷◌, map, length, Some, None, ℤ, arith}
+use Rattle.std.proofs.Common.{◌≡◌, refl, sym, ◌∙◌, ap, ap₂, subst, ℕ, zero, suc, ◌+◌, ◌*◌, ◌^◌, ◌<◌, ◌≤◌, ◌⊎◌, inl, inr, Bool, true, false, cond, nat_lt, ◌==◌, ◌&&◌, ◌||◌, List, [], ◌∷◌, map, length, Some, None, ℤ, arith}
 use Rattle.std.specs.Prelude.{int_lt}
 use Rattle.std.specs.List.{flat_map}
 use Rattle.std.specs.Ordering.{int_eq}
 use Rattle.std.proofs.lemmas.Int.{ints}
 use Rattle.std.proofs.lemmas.Bool.{and_parts, and_from, lt-ltb, eq-eqb, cases_order, cases_Bool, or_cases, or_left, or_right}
 use Rattle.least_path.specs.Least.{is_not_after, least_by}
-use Rattle.least_path.proofs.Chosen.{StandsIn, AllAre, all-at, all-weaker, least-stands}
+use Rattle.least_path.proofs.Chosen.{StandsIn, AllAre, all-at, all-flat_map, all-map, all-weaker, least-stands}
 use Rattle.octi_grid.specs.declared.dir.Dir.{Dir}
 use Rattle.octi_grid.specs.declared.point.GridPoint.{GridPoint}
 use Rattle.octi_grid.specs.Ways.{are_one, number_of}
@@ -15,13 +15,15 @@ use Rattle.state_search.specs.Goals.{PathTo}
 use Rattle.state_search.proofs.Dictionaries.{by_head}
 use Rattle.state_search.proofs.Visiting.{HasShort, shortened}
 use Rattle.walk_search.specs.declared.ends.End.{End}
-use Rattle.walk_search.specs.Routes.{best_of, free_walks, is_first, is_free, is_no_worse, most_steps, route, total_of, walks_from}
+use Rattle.walk_search.specs.Routes.{best_of, directions, free_walks, is_first, is_free, is_no_worse, lists_upto, most_steps, route, total_of, walks_from}
+use Rattle.grid_board.specs.Boards.{cells_of}
 use Rattle.grid_board.specs.Points.{is_lower}
 use Rattle.walk_search.specs.Seats.{seats_of}
 use Rattle.walk_search.specs.Spots.{spots_of}
 use Rattle.walk_search.specs.Moves.{Question, IsQuestion, direction, space_of, start_at}
 use Rattle.grid_board.proofs.Marks.{one_is, one_true}
-use Rattle.walk_search.proofs.SeatFacts.{all_passed}
+use Rattle.grid_board.proofs.Within.{few_cells}
+use Rattle.walk_search.proofs.SeatFacts.{all_filter, all_passed}
 use Rattle.walk_search.proofs.Moving.{is_space}
 use Rattle.walk_search.proofs.Walking.{AreLabelsOfWalk, path_labels}
 use Rattle.walk_search.proofs.FreeWalks.{HasPath, IsPathWalk, path_of_walk, walk_of_path}
@@ -228,6 +230,36 @@ route_free q r e =
     all-at (λ w. is_free q.board q.from q.to w ≡ true) r (free_walks q.board q.from q.to)
     (all_passed (is_free q.board q.from q.to) (λ w. is_free q.board q.from q.to w ≡ true) (flat_map (walks_from (most_steps q.board)) (seats_of q.board q.from)) (λ w h. h))
     (best_parts (is_no_worse q.from q.to) (walks_rank q.from q.to) (free_walks q.board q.from q.to) r e).stands
+
+-- and it has few steps
+longer_each : (n : ℕ) → AllAre (λ (es : List Dir). length es ≤ n) (lists_upto n) → (ds : List Dir) → AllAre (λ (d : Dir). AllAre (λ (es : List Dir). length es ≤ suc n) (map (λ (es : List Dir). d ∷ es) (lists_upto n))) ds
+longer_each n all [] = tt
+longer_each n all (d ∷ ds) = (
+  all-map (λ (es : List Dir). length es ≤ suc n) (λ (es : List Dir). d ∷ es) (lists_upto n)
+      (all-weaker (λ (es : List Dir). length es ≤ n) (λ (es : List Dir). length (d ∷ es) ≤ suc n) (lists_upto n) (λ es short. omega (arith, short)) all),
+  longer_each n all ds,
+)
+
+lists_short : (n : ℕ) → AllAre (λ (es : List Dir). length es ≤ n) (lists_upto n)
+lists_short zero = (omega arith, tt)
+lists_short (suc n) = (
+  omega arith,
+  all-flat_map (λ (es : List Dir). length es ≤ suc n) (λ (d : Dir). map (λ (es : List Dir). d ∷ es) (lists_upto n)) directions (longer_each n (lists_short n) directions),
+)
+
+walks_short : (n : ℕ) (ps : List GridPoint) → AllAre (λ (p : GridPoint). AllAre (λ (w : PlainWalk). length w.steps ≤ n) (walks_from n p)) ps
+walks_short n [] = tt
+walks_short n (p ∷ ps) =
+    (all-map (λ (w : PlainWalk). length w.steps ≤ n) (λ (es : List Dir). (let w : PlainWalk = record { start = p; steps = es } in w)) (lists_upto n) (lists_short n), walks_short n ps)
+
+pub route_short : (q : Question) → IsQuestion q → (r : PlainWalk) → route q.board q.from q.to ≡ Some r → length r.steps < 2 ^ 60
+route_short q h r e =
+    let short : length r.steps ≤ 90 * cells_of q.board.bounds + 1 =
+    all-at (λ (w : PlainWalk). length w.steps ≤ most_steps q.board) r (free_walks q.board q.from q.to)
+    (all_filter (is_free q.board q.from q.to) (λ (w : PlainWalk). length w.steps ≤ most_steps q.board) (flat_map (walks_from (most_steps q.board)) (seats_of q.board q.from))
+    (all-flat_map (λ (w : PlainWalk). length w.steps ≤ most_steps q.board) (walks_from (most_steps q.board)) (seats_of q.board q.from) (walks_short (most_steps q.board) (seats_of q.board q.from))))
+    (best_parts (is_no_worse q.from q.to) (walks_rank q.from q.to) (free_walks q.board q.from q.to) r e).stands in
+    omega (arith, short, few_cells q.board.bounds h.board.in_range)
 
 pub route_best : (q : Question) → IsQuestion q → (r w : PlainWalk) → route q.board q.from q.to ≡ Some r → is_free q.board q.from q.to w ≡ true → is_no_worse q.from q.to r w ≡ true
 route_best q h r w e free = of_cost (all-at (λ v. is_no_worse q.from q.to r v ≡ true) short.walk (free_walks q.board q.from q.to) best.no_worse short.looked_at) short.no_more

@@ -16,3 +16,4 @@ pub mod Best
 pub mod Crossing
 pub mod Cutting
 pub mod Once
+pub mod Limits

@@ -1,5 +1,5 @@
 -- Free walks between two ends, and the route: the least of them.
-use Rattle.std.specs.Prelude.{ℕ, zero, suc, ◌+◌, ◌*◌, ◌==◌, ◌||◌, ◌&&◌, nat_lt, Bool, false, not, List, [], ◌∷◌, length, map, filter, take, drop, Option, Some, None}
+use Rattle.std.specs.Prelude.{◌≡◌, ◌<◌, ◌⊎◌, ℕ, zero, suc, ◌+◌, ◌*◌, ◌==◌, ◌||◌, ◌&&◌, nat_lt, nat_le, Bool, false, not, List, [], ◌∷◌, length, map, filter, take, drop, if◌then◌else◌, Option, Some, None}
 use Rattle.std.specs.Int.{bit_at}
 use Rattle.std.specs.List.{flat_map, list_all, list_any}
 use Rattle.least_path.specs.Least.{least_by, is_not_after}
@@ -82,3 +82,13 @@ best_of is_no_worse (w ∷ ws) = Some (least_by is_no_worse w (w ∷ ws))
 -- the route: the best free walk, and none where there is none
 abbrev pub route : BoardParts → End → End → Option PlainWalk
 route board from to = best_of (is_no_worse from to) (free_walks board from to)
+
+-- the route, or none where it costs more than a limit with its seats and one more
+abbrev pub IsRouteUpTo : Option ℕ → End → End → Option PlainWalk → Option PlainWalk → Type 0
+IsRouteUpTo None from to r walk = walk ≡ r
+IsRouteUpTo (Some limit) from to r walk = (walk ≡ r) ⊎ ((walk ≡ None) × ((w : PlainWalk) → r ≡ Some w → limit < total_of from to w + 1))
+
+-- a walk, if it costs at most so much
+abbrev pub if_within : ℕ → Option PlainWalk → Option PlainWalk
+if_within most None = None
+if_within most (Some w) = if nat_le (cost_of w) most then Some w else None

@@ -24,7 +24,7 @@ pub(crate) fn direction(number: u8) -> Dir
 }
 
 /// Whether a mask allows the port of a direction.
-pub(crate) fn allows(mask: u8, port: Dir) -> bool
+pub fn allows(mask: u8, port: Dir) -> bool
     ensures { result ≡ allows mask (Some port) }
 {
     (mask >> port.index()) & 1 == 1

@@ -17,11 +17,12 @@ mod seats;
 mod spots;
 mod walk;
 
+pub use directions::allows;
 pub use ends::End;
 pub use grid_board::{Board, Bounds};
 pub use laws::{
     no_walk_costs_less_than_reach, the_route_has_no_doubled_point_twice,
     the_route_is_the_best_free_walk,
 };
-pub use least::{least_settled_walk, least_walk};
+pub use least::{least_settled_walk, least_walk, least_walk_within};
 pub use reaching::reach;

@@ -2,7 +2,7 @@
 
 ghost use Rattle.std.specs.Prelude.{◌≡◌, ℕ, ◌+◌, ◌<◌, ◌↔◌, [], Some, None, true, IsTrue, IfOk, IfSome, IfNone, OnOk, length, replicate};
 ghost use Rattle.std.specs.BinaryHeap.{IsHeap, heap_items};
-ghost use Rattle.state_search.specs.Searching.{IsSearched, known_at, queue_cmp};
+ghost use Rattle.state_search.specs.Searching.{IsSearchedUpTo, known_at, lesser_limit, queue_cmp};
 ghost use Rattle.walk_search.specs.Spots.{spots_of};
 ghost use Rattle.walk_search.specs.Asking.{question};
 ghost use Rattle.walk_search.specs.Moves.{space_of};
@@ -19,13 +19,20 @@ use std::alloc::Global;
 const FEW_ROUNDS: u32 = 512;
 
 /// Notes, where nothing is known, the least costs at which the ends can be reached, as far as they can lie on a walk
-/// no dearer than the least. The search goes from the ends backwards and ends where what waits can only be dearer.
-pub(crate) fn note_costs(alloc: Global, asked: &Asked, known: &mut Known) -> Result<(), NoMemory>
+/// no dearer than the least, and no dearer than a limit, if there is one. The search goes from the ends backwards and ends
+/// where what waits can only be dearer.
+pub(crate) fn note_costs(
+    alloc: Global,
+    asked: &Asked,
+    known: &mut Known,
+    limit: Option<u64>,
+) -> Result<(), NoMemory>
     requires { known.old ≡ replicate (spots_of (question asked.now).board.bounds + 1) None }
-    ensures { OnOk result (IsSearched (space_of (question asked.now)) (spots_of (question asked.now).board.bounds) known.new) }
+    ensures searched { OnOk result (IsSearchedUpTo limit (space_of (question asked.now)) (spots_of (question asked.now).board.bounds) known.new) }
+    ensures each { OnOk result (length known.new ≡ spots_of (question asked.now).board.bounds + 1) }
 {
     let mut queue = Queue::new(alloc);
-    search(alloc, asked, known, &mut queue)
+    search(alloc, asked, known, &mut queue, limit)
 }
 
 /// The same, with a queue in which nothing waits.
@@ -34,16 +41,18 @@ fn search(
     asked: &Asked,
     known: &mut Known,
     queue: &mut Queue,
+    limit: Option<u64>,
 ) -> Result<(), NoMemory>
     requires nothing_known { known.old ≡ replicate (spots_of (question asked.now).board.bounds + 1) None }
     requires nothing_waits { heap_items queue.old ≡ [] }
     requires order { IsHeap queue_cmp (heap_items queue.old) }
-    ensures { OnOk result (IsSearched (space_of (question asked.now)) (spots_of (question asked.now).board.bounds) known.new) }
+    ensures searched { OnOk result (IsSearchedUpTo limit (space_of (question asked.now)) (spots_of (question asked.now).board.bounds) known.new) }
+    ensures each { OnOk result (length known.new ≡ spots_of (question asked.now).board.bounds + 1) }
 {
     let before = asked.before();
     offer_ends(asked, known, queue)?;
     let mut rounds = 0u32;
-    while let Some((estimate, at)) = next(queue, known.of(before)) {
+    while let Some((estimate, at)) = next(queue, lesser(known.of(before), limit)) {
         if is_in_vain(alloc, asked, rounds)? {
             return Ok(());
         }
@@ -53,6 +62,19 @@ fn search(
         }
     }
     Ok(())
+}
+
+/// The lesser of two limits, as far as there are any.
+fn lesser(a: Option<u64>, b: Option<u64>) -> Option<u64>
+    ensures { result ≡ lesser_limit a b }
+{
+    match a {
+        None => b,
+        Some(first) => match b {
+            None => a,
+            Some(second) => Some(first.min(second)),
+        },
+    }
 }
 
 /// Whether, after so many rounds, the start is found to be shut in.

@@ -4,7 +4,7 @@ use crate::boards::{ask, at, expect_walk, put_node, put_walk, run};
 use grid_board::Board;
 use octi_grid::Dir;
 use std::test::Fail;
-use walk_search::least_walk;
+use walk_search::{least_walk, least_walk_within};
 
 /// A walk stands between two nodes: the least way round it lies outside the box of the ends, and is the lesser of two
 /// lists. Where walks take all eight neighbours of the start, there is no way.
@@ -116,7 +116,8 @@ fn stays_at_homes(rt: HostRuntime) -> Result<(), Fail> {
     Ok(())
 }
 
-/// From corner to corner of a large board: a search that looks at each point does not end in the time of a test.
+/// From corner to corner of a large board: a search that looks at each point does not end in the time of a test. The walk
+/// costs 10,000, so none costs 9,999 at most.
 #[test]
 fn crosses_a_large_board(rt: HostRuntime) -> Result<(), Fail> {
     let mut board = Board::new(rt.alloc(), -1000, 1000, -1000, 1000)?;
@@ -128,5 +129,9 @@ fn crosses_a_large_board(rt: HostRuntime) -> Result<(), Fail> {
     assert!(rt; from.x != to.x);
     let found = least_walk(rt.alloc(), &board, from, 255, to, 255)?;
     expect_walk(&rt, &found, from, [run(Dir::NE, 2000)].as_slice(), to);
+    let within = least_walk_within(rt.alloc(), &board, from, 255, to, 255, 10000)?;
+    expect_walk(&rt, &within, from, [run(Dir::NE, 2000)].as_slice(), to);
+    let cheaper = least_walk_within(rt.alloc(), &board, from, 255, to, 255, 9999)?;
+    assert!(rt; cheaper.is_none());
     Ok(())
 }

@@ -6,9 +6,8 @@ use Rattle.std.proofs.lemmas.Slice.Zip.{length-zip}
 use Rattle.octi_grid.specs.declared.point.GridPoint.{GridPoint}
 use Rattle.octi_grid.specs.Legal.{legs_of, Leg}
 use Rattle.octi_grid.specs.Walks.{points_of}
-use Rattle.drawing_weights.proofs.DrawnFacts.{no_ends}
+use Rattle.drawing_weights.proofs.DrawnFacts.{leg_place, no_ends}
 use Rattle.octi_moves.specs.Lightest.{points_beside}
-use Rattle.octi_moves.proofs.TakenAway.{leg_place}
 use Rattle.octi_moves.proofs.standing.points_beside.Goals as goal
 
 pub loop-s-preserved : goal.loop-s-preserved

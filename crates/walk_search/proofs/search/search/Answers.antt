@@ -1,8 +1,8 @@
 use Rattle.std.proofs.Common.{◌∙◌, ap, subst, ℕ, ◌+◌, ◌*◌, ◌<◌, List, [], Option, None, replicate, length}
 use Rattle.std.specs.declared.cmp.Reverse.{Reverse}
 use Rattle.std.specs.BinaryHeap.{heap_items}
-use Rattle.state_search.specs.Searching.{AreLowered, IsBeyond, known_at, nothing}
-use Rattle.state_search.proofs.Searches.{less_left, search_ends, search_stale, search_taken, taken_in_range}
+use Rattle.state_search.specs.Searching.{AreLowered, IsBeyond, known_at, lesser_limit, nothing}
+use Rattle.state_search.proofs.Searches.{less_left, search_ends_at, search_stale, search_taken, taken_in_range}
 use Rattle.state_search.proofs.Lowering.{goals_offered, goals_stay, steps_offered}
 use Rattle.walk_search.specs.Asking.{question}
 use Rattle.walk_search.specs.Spots.{spots_of, spot_of}
@@ -25,10 +25,14 @@ loop-estimate-init c =
     let begun = goals_offered (space_of q) (is_space q c.before-before.ensures.asked) c.offer_ends.new.known (heap_items c.offer_ends.new.queue) offers (goals_are_offered q c.before-before.ensures.asked) all in
     record { order = c.in_ok-offer_ends.ensures.order; each = c.in_ok-offer_ends.ensures.each; search = begun.0; goals = begun.1 }
 
-pub returns-then-branch : goal.returns-then-branch
-returns-then-branch c =
+pub returns-then-branch-clause-searched : goal.returns-then-branch-clause-searched
+returns-then-branch-clause-searched c =
     let q = question c.args.asked.now in
-    none_found (space_of q) (spots_of q.board.bounds) c.loop-estimate.known (heap_items c.loop-estimate.queue) nothing c.loop-estimate.invariant.search (c.in_ok-is_in_vain.ensures c.if-branch.true)
+    let never = c.in_ok-is_in_vain.ensures c.if-branch.true in
+    record {
+      within = λ h. none_found (space_of q) (spots_of q.board.bounds) c.loop-estimate.known (heap_items c.loop-estimate.queue) nothing c.loop-estimate.invariant.search never;
+      beyond = λ h labels k path. absurd (never labels k path);
+    }
 
 pub fresh_cost-requires-clause-at : goal.fresh_cost-requires-clause-at
 fresh_cost-requires-clause-at c =
@@ -90,9 +94,9 @@ loop-estimate-preserved c =
       goals = c.loop-estimate.invariant.goals;
     }
 
-pub returns : goal.returns
-returns c =
+pub returns-clause-searched : goal.returns-clause-searched
+returns-clause-searched c =
     let q = question c.args.asked.now in
-    search_ends (space_of q) (is_space q c.before-before.ensures.asked) (spots_of q.board.bounds) c.loop-estimate.known (heap_items c.loop-estimate.queue) (nothing_ahead q) c.loop-estimate.invariant.search
-    c.loop-estimate.invariant.goals
-    (λ p k w. subst (λ (o : Option ℕ). IsBeyond o k) (c.of.ensures ∙ ap (known_at c.loop-estimate.known) c.before-before.ensures.value) (c.in_default.ensures.none p k w))
+    search_ends_at (space_of q) (is_space q c.before-before.ensures.asked) c.args.limit (spots_of q.board.bounds) c.loop-estimate.known (heap_items c.loop-estimate.queue) (nothing_ahead q)
+    c.loop-estimate.invariant.search c.loop-estimate.invariant.goals
+    (λ p k w. subst (λ (o : Option ℕ). IsBeyond o k) (c.lesser.ensures ∙ ap (λ (o : Option ℕ). lesser_limit o c.args.limit) (c.of.ensures ∙ ap (known_at c.loop-estimate.known) c.before-before.ensures.value)) (c.in_default.ensures.none p k w))

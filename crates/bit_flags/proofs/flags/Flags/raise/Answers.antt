@@ -1,6 +1,6 @@
 use Rattle.std.proofs.Common.{◌≡◌, ◌∙◌, ap, ◌/◌, ◌%◌, ◌<◌, true, length, get_or, set, arith}
 use Rattle.bit_flags.specs.Bits.{flags_in}
-use Rattle.bit_flags.proofs.Words.{length-flags_in, one_raised, with_bit}
+use Rattle.bit_flags.proofs.Words.{length-flags_in, one_flagged, with_bit}
 use Rattle.std.proofs.lemmas.Grind.{get_or_default_zero}
 use Rattle.bit_flags.proofs.flags.Flags.raise.Goals as goal
 
@@ -15,4 +15,4 @@ returns c =
     let below : place < count = omega (arith, length-flags_in words count, ap length c.self.view_is) in
     let word_within : place / 64 < length words = omega (arith, c.self.invariant) in
     let word : c.index_mut.result.now ≡ get_or words (place / 64) 0 = c.index_mut.ensures.value ∙ get_or_default_zero words (place / 64) c.index_mut.result.now word_within in
-    ap (λ n. flags_in (set words (place / 64) (with_bit n (place % 64))) count) word ∙ one_raised words count place c.self.invariant below ∙ ap (λ fs. set fs place true) c.self.view_is
+    ap (λ n. flags_in (set words (place / 64) (with_bit true n (place % 64))) count) word ∙ one_flagged true words count place c.self.invariant below ∙ ap (λ fs. set fs place true) c.self.view_is

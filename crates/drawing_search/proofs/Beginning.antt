@@ -1,0 +1,215 @@
+-- A search begins with a whole drawing on its board, and ends with one.
+use Rattle.std.proofs.Common.{◌≡◌, refl, sym, ◌∙◌, ap, ap₂, subst, ℕ, zero, suc, ◌+◌, ◌<◌, ◌≤◌, Bool, true, not, List, [], ◌∷◌, length, map, get_or, replicate, Option, Some, None, Result, Ok, Err, arith}
+use Rattle.std.proofs.lemmas.Bool.{and_from}
+use Rattle.std.proofs.lemmas.List.{get_or-map, get_or_default, length-map}
+use Rattle.std.proofs.lemmas.List.FromFn.{fill_by_all, length-map-range_with_len}
+use Rattle.std.specs.List.{filter_map, list_all, range_with_len}
+use Rattle.std.specs.Prelude.{All, IfOk}
+use Rattle.graph_core.specs.declared.parts.GraphParts.{GraphParts}
+use Rattle.graph_core.specs.Consistent.{IsConsistent}
+use Rattle.octi_grid.specs.declared.dir.Dir.TheVariants as dir
+use Rattle.octi_grid.specs.declared.point.GridPoint.{GridPoint}
+use Rattle.octi_grid.specs.Legal.{is_even}
+use Rattle.octi_grid.specs.Walks.{points_of, PlainWalk}
+use Rattle.grid_board.specs.declared.bounds.Bounds.{Bounds}
+use Rattle.grid_board.specs.Boards.{contains, AreBounds}
+use Rattle.grid_board.specs.Points.{are_near, is_near}
+use Rattle.segment_router.proofs.SettledLemmas.{nowhere}
+use Rattle.drawing_weights.specs.Drawn.{points_all, IsDrawn}
+use Rattle.drawing_weights.specs.Scales.{weight_by, Scale}
+use Rattle.drawing_weights.specs.Weights.{point_of}
+use Rattle.run_laying.specs.Attempts.{bounds_past, is_inner, walk_beside, without_runs, Attempt}
+use Rattle.run_laying.specs.Drawings.{IsOnBoard}
+use Rattle.run_laying.specs.Laying.{Sketch}
+use Rattle.run_laying.specs.Runs.{IsFitting}
+use Rattle.run_laying.specs.Sketches.{IsLegalSketch}
+use Rattle.run_laying.specs.Searches.{Found}
+use Rattle.run_laying.proofs.Kept.{kept_sketch}
+use Rattle.run_laying.proofs.Whole.{whole_legal}
+use Rattle.drawing_search.specs.declared.group.Group.{Group}
+use Rattle.drawing_search.specs.declared.searching.Searched.{Searched}
+use Rattle.drawing_search.specs.Gains.{sketch_weight}
+use Rattle.drawing_search.specs.Searched.{found_on, IsSearched, IsSearchedOn}
+use Rattle.drawing_search.specs.Shown.{whole_sketch}
+use Rattle.drawing_search.specs.Tries.{IsSettled}
+use Rattle.drawing_search.specs.Trying.{walks_of, IsWhole}
+use Rattle.drawing_search.proofs.OnWalks.{same_weight, sketch_by_walks, IsGood}
+use Rattle.drawing_search.proofs.RunReads.{near_more}
+use Rattle.drawing_search.proofs.Searches.{IsBetweenPasses}
+use Rattle.drawing_search.proofs.Spans.{first_within, inside_near, past_bounds}
+
+-- an attempt that changes nothing
+abbrev no_attempt : Attempt
+no_attempt = record { nodes = []; dir = dir.N; count = 0; runs = [] }
+
+no_attempt_fits : (graph : GraphParts) → IsFitting graph no_attempt
+no_attempt_fits graph = record {
+  runs = λ i d h. absurd (omega (arith, h));
+  beside = tt;
+  nodes = λ i d h. absurd (omega (arith, h));
+  ends = λ i d h. absurd (omega (arith, h));
+  all = λ i d h. absurd (omega (arith, h));
+  even = refl;
+}
+
+all_true : (a n : ℕ) → map (λ (i : ℕ). true) (range_with_len a n) ≡ replicate n true
+all_true a zero = refl
+all_true a (suc n) = ap (λ (bs : List Bool). true ∷ bs) (all_true (a + 1) n)
+
+walks_back : (ws : List PlainWalk) → filter_map (λ (o : Option PlainWalk). o) (map (λ (w : PlainWalk). Some w) ws) ≡ ws
+walks_back [] = refl
+walks_back (w ∷ ws) = ap (λ (vs : List PlainWalk). w ∷ vs) (walks_back ws)
+
+module _ (graph : GraphParts) (fit : IsConsistent graph) (bounds : Bounds) (ws : List PlainWalk) (on_board : IsOnBoard graph bounds ws) where
+  abbrev no_walk : PlainWalk
+  no_walk = record { start = nowhere; steps = [] }
+
+  walks_same : map (λ (w : PlainWalk). Some w) ws ≡ map (walk_beside ws []) (range_with_len 0 (length graph.ends))
+  walks_same =
+      fill_by_all (λ s. Some (get_or ws s no_walk)) (map (λ (w : PlainWalk). Some w) ws) (length graph.ends) None (length-map ws (λ (w : PlainWalk). Some w) ∙ on_board.drawn.each)
+      (λ s h. get_or-map (λ (w : PlainWalk). Some w) ws s no_walk None (omega (arith, h, on_board.drawn.each)))
+
+  stand_same : replicate (length (points_all graph ws)) true ≡ map (λ n. not (is_inner [] n)) (range_with_len 0 (length graph.kinds))
+  stand_same = ap (λ n. replicate n true) (length-map-range_with_len (point_of graph ws) 0 (length graph.kinds)) ∙ sym (all_true 0 (length graph.kinds))
+
+  whole_is : without_runs graph bounds ws no_attempt ≡ whole_sketch bounds (points_all graph ws) ws
+  whole_is =
+      sym (ap (λ (fs : List Bool). (let j : Sketch = record { bounds = bounds; points = points_all graph ws; stand = fs; walks = map (λ (w : PlainWalk). Some w) ws } in j)) stand_same
+      ∙ ap (λ (os : List (Option PlainWalk)). (let j : Sketch = record { bounds = bounds; points = points_all graph ws; stand = map (λ n. not (is_inner [] n)) (range_with_len 0 (length graph.kinds)); walks = os } in j)) walks_same)
+
+  pub whole_good : IsGood graph bounds (whole_sketch bounds (points_all graph ws) ws)
+  whole_good =
+      let kept = kept_sketch graph fit bounds ws on_board no_attempt (no_attempt_fits graph) (without_runs graph bounds ws no_attempt) refl in
+      subst (IsGood graph bounds) whole_is (record { legal = kept.legal; complete = kept.complete; bounds_same = kept.bounds_same })
+
+  pub whole_whole : IsWhole (whole_sketch bounds (points_all graph ws) ws)
+  whole_whole = record {
+    nodes = λ n below. whole_good.complete.nodes n (omega (arith, below, whole_good.legal.stand_each));
+    walks = λ i below. whole_good.complete.walks i (omega (arith, below, whole_good.legal.walks_each));
+  }
+
+  pub walks_kept : walks_of (whole_sketch bounds (points_all graph ws) ws) ≡ ws
+  walks_kept = walks_back ws
+
+-- passes from a whole legal drawing
+module _ (graph : GraphParts) (fit : IsConsistent graph) (scale : Scale) (k : Sketch) (legal : IsLegalSketch graph k) (whole : IsWhole k) where
+  abbrev first : List PlainWalk
+  first = walks_of k
+
+  is_good : IsGood graph k.bounds k
+  is_good = record {
+    legal = legal;
+    complete = record { nodes = λ n below. whole.nodes n (omega (arith, below, legal.stand_each)); walks = λ i below. whole.walks i (omega (arith, below, legal.walks_each)) };
+    bounds_same = refl;
+  }
+
+  drawn : IsDrawn graph first
+  drawn = (whole_legal graph fit k legal is_good.complete).drawn
+
+  -- what a whole legal sketch on the board weighs
+  kept_weighs : (j : Sketch) → IsGood graph k.bounds j → sketch_weight scale graph (points_all graph first) j ≡ weight_by scale graph first (walks_of j)
+  kept_weighs j good =
+      ap (sketch_weight scale graph (points_all graph first)) (sketch_by_walks graph fit j good.legal good.complete)
+      ∙ same_weight graph fit j.bounds (walks_of j) (whole_legal graph fit j good.legal good.complete).drawn scale first
+
+  -- all passes are left
+  pub passes_begin : (groups : List Group) (at_once most before : ℕ) → before ≡ sketch_weight scale graph (points_all graph first) k → before ≤ 144115188075855872 → IsBetweenPasses scale graph first k.bounds groups at_once most before k before 0
+  passes_begin groups at_once most before is small = record {
+    settled = record { legal = legal; whole = whole; weight_is = is; small = small };
+    good = is_good;
+    passes = most;
+    enough = (omega arith, refl);
+    few = omega arith;
+    no_heavier = omega arith;
+  }
+
+  -- or none
+  search_ends : (attempts : List Attempt) (at_once most : ℕ) (j : Sketch) (weight made before : ℕ) (s : Searched) → IsGood graph k.bounds j → weight ≡ sketch_weight scale graph (points_all graph first) j → weight ≤ before
+      → before ≡ sketch_weight scale graph (points_all graph first) k → (let f : Found = record { walks = walks_of j; made = made } in f) ≡ found_on graph scale k.bounds attempts at_once most first
+      → s.drawing.walks ≡ walks_of j → s.made ≡ made → s.before ≡ before → s.after ≡ weight → IsSearchedOn graph scale k.bounds attempts at_once most first s
+  search_ends attempts at_once most j weight made before s good weighs lighter first_weighs found drawing_is made_is before_is after_is = record {
+    drawing = drawing_is ∙ ap (λ (f : Found). f.walks) found;
+    made = made_is ∙ ap (λ (f : Found). f.made) found;
+    before = before_is ∙ first_weighs ∙ kept_weighs k is_good;
+    after = after_is ∙ weighs ∙ kept_weighs j good ∙ ap (weight_by scale graph first) (sym drawing_is);
+    on_board = subst (IsOnBoard graph k.bounds) (sym drawing_is) (subst (λ (b : Bounds). IsOnBoard graph b (walks_of j)) good.bounds_same (whole_legal graph fit j good.legal good.complete));
+    no_heavier = omega (arith, lighter, before_is, after_is);
+  }
+
+  pub outcome_is : {E : Type 0} (attempts : List Attempt) (at_once most : ℕ) (j : Sketch) (weight made before : ℕ) (r : Result Searched E) → IsGood graph k.bounds j → weight ≡ sketch_weight scale graph (points_all graph first) j → weight ≤ before
+      → before ≡ sketch_weight scale graph (points_all graph first) k → (let f : Found = record { walks = walks_of j; made = made } in f) ≡ found_on graph scale k.bounds attempts at_once most first
+      → IfOk r (λ (s : Searched). s.drawing.walks ≡ walks_of j) → IfOk r (λ (s : Searched). s.made ≡ made) → IfOk r (λ (s : Searched). s.before ≡ before) → IfOk r (λ (s : Searched). s.after ≡ weight) → IfOk r (IsSearchedOn graph scale k.bounds attempts at_once most first)
+  outcome_is attempts at_once most j weight made before (Ok s) good weighs lighter first_weighs found drawing made_is before_is after = search_ends attempts at_once most j weight made before s good weighs lighter first_weighs found drawing made_is before_is after
+  outcome_is attempts at_once most j weight made before (Err e) good weighs lighter first_weighs found drawing made_is before_is after = tt
+
+-- what holds of all points of a list, by their places
+from_places : (test : GridPoint → Bool) (ps : List GridPoint) → ((n : ℕ) → n < length ps → test (get_or ps n nowhere) ≡ true) → list_all test ps ≡ true
+from_places test [] h = refl
+from_places test (p ∷ ps) h = and_from (test p) (list_all test ps) (h 0 (omega arith)) (from_places test ps (λ n below. h (suc n) (omega (arith, below))))
+
+-- the first drawing on its board
+module _ (graph : GraphParts) (fit : IsConsistent graph) (ws : List PlainWalk) (drawn : IsDrawn graph ws) (near : are_near 1900 ws ≡ true) (margin : ℕ) (small : margin ≤ 20) where
+  pub begins_on_board : IsOnBoard graph (bounds_past margin ws) ws
+  begins_on_board = record { bounds_fit = past_bounds ws near margin small; drawn = drawn; within = first_within ws near margin small }
+
+  good : IsGood graph (bounds_past margin ws) (whole_sketch (bounds_past margin ws) (points_all graph ws) ws)
+  good = whole_good graph fit (bounds_past margin ws) ws begins_on_board
+
+  pub points_many : length (points_all graph ws) ≡ length graph.kinds
+  points_many = length-map-range_with_len (point_of graph ws) 0 (length graph.kinds)
+
+  inside_at : (n : ℕ) → n < length (points_all graph ws) → contains (bounds_past margin ws) (get_or (points_all graph ws) n nowhere) ≡ true
+  inside_at n below = good.legal.inside n (good.complete.nodes n (omega (arith, below, points_many)))
+
+  pub first_inside : list_all (contains (bounds_past margin ws)) (points_all graph ws) ≡ true
+  first_inside = from_places (contains (bounds_past margin ws)) (points_all graph ws) inside_at
+
+  pub first_even : list_all is_even (points_all graph ws) ≡ true
+  first_even = from_places is_even (points_all graph ws) (λ n below. good.legal.even n (good.complete.nodes n (omega (arith, below, points_many))))
+
+  pub first_near : All (λ (p : GridPoint). is_near 1920 p ≡ true) (points_all graph ws)
+  first_near = λ n d below.
+      ap (is_near 1920) (get_or_default (points_all graph ws) n d nowhere below)
+      ∙ near_more (1900 + margin) 1920 (omega (arith, small)) (get_or (points_all graph ws) n nowhere) (inside_near 1900 margin ws near (get_or (points_all graph ws) n nowhere) (inside_at n below))
+
+  -- as it is read
+  module _ (first : List GridPoint) (bounds : Bounds) (walks : List PlainWalk) (first_is : first ≡ points_all graph ws) (bounds_is : bounds ≡ bounds_past margin ws) (walks_is : walks ≡ ws) where
+    pub asked_bounds : AreBounds bounds
+    asked_bounds = subst AreBounds (sym bounds_is) begins_on_board.bounds_fit
+
+    pub asked_points : length first ≡ length graph.kinds
+    asked_points = ap length first_is ∙ points_many
+
+    pub asked_walks : length walks ≡ length graph.ends
+    asked_walks = ap length walks_is ∙ drawn.each
+
+    pub asked_inside : list_all (contains bounds) first ≡ true
+    asked_inside = ap₂ (λ (b : Bounds) (ps : List GridPoint). list_all (contains b) ps) bounds_is first_is ∙ first_inside
+
+    pub asked_even : list_all is_even first ≡ true
+    asked_even = ap (list_all is_even) first_is ∙ first_even
+
+    pub asked_within : list_all (λ (w : PlainWalk). list_all (contains bounds) (points_of w)) walks ≡ true
+    asked_within = ap₂ (λ (b : Bounds) (vs : List PlainWalk). list_all (λ (w : PlainWalk). list_all (contains b) (points_of w)) vs) bounds_is walks_is ∙ begins_on_board.within
+
+    pub asked_near : All (λ (p : GridPoint). is_near 1920 p ≡ true) first
+    asked_near = subst (All (λ (p : GridPoint). is_near 1920 p ≡ true)) (sym first_is) first_near
+
+    module _ (k : Sketch) (is : k ≡ whole_sketch bounds first walks) where
+      whole_of : k ≡ whole_sketch (bounds_past margin ws) (points_all graph ws) ws
+      whole_of = is ∙ ap₂ (λ (b : Bounds) (ps : List GridPoint). whole_sketch b ps walks) bounds_is first_is ∙ ap (whole_sketch (bounds_past margin ws) (points_all graph ws)) walks_is
+
+      pub begun_legal : IsLegalSketch graph k
+      begun_legal = subst (IsLegalSketch graph) (sym whole_of) good.legal
+
+      pub begun_whole : IsWhole k
+      begun_whole = subst IsWhole (sym whole_of) (whole_whole graph fit (bounds_past margin ws) ws begins_on_board)
+
+      pub begun_walks : walks_of k ≡ ws
+      begun_walks = ap walks_of whole_of ∙ walks_kept graph fit (bounds_past margin ws) ws begins_on_board
+
+      -- and what comes of passes from it
+      pub begun_searched : {E : Type 0} (scale : Scale) (attempts : List Attempt) (at_once most : ℕ) (r : Result Searched E) → IfOk r (IsSearchedOn graph scale k.bounds attempts at_once most (walks_of k)) → IfOk r (IsSearched graph scale margin attempts at_once most ws)
+      begun_searched scale attempts at_once most r searched =
+          subst (λ (vs : List PlainWalk). IfOk r (IsSearchedOn graph scale (bounds_past margin ws) attempts at_once most vs)) begun_walks
+          (subst (λ (b : Bounds). IfOk r (IsSearchedOn graph scale b attempts at_once most (walks_of k))) (ap (λ (j : Sketch). j.bounds) whole_of) searched)

@@ -1,0 +1,128 @@
+-- How the board of a sketch changes.
+use Rattle.std.proofs.Common.{◌≡◌, refl, sym, ◌∙◌, ap, subst, ℕ, zero, suc, ◌<◌, Bool, true, false, not, ◌&&◌, ◌||◌, List, [], ◌∷◌, length, get_or, replicate, set, Option, Some, None, ◌⊎◌, inl, inr, arith, length-set, get_or-set_same, get_or-set_other}
+use Rattle.std.proofs.lemmas.Bool.{and_from, and_parts, cases_eq, not-true, true≢false}
+use Rattle.std.specs.List.{filter_map, list_any, zip}
+use Rattle.map_base.specs.declared.ids.NodeId.{NodeId}
+use Rattle.map_base.specs.declared.ids.SegId.{SegId}
+use Rattle.graph_core.specs.declared.parts.GraphParts.{GraphParts}
+use Rattle.octi_grid.specs.declared.point.GridPoint.{GridPoint}
+use Rattle.octi_grid.specs.Ways.{are_one}
+use Rattle.octi_grid.specs.Walks.{doubled_of, PlainWalk}
+use Rattle.octi_grid.specs.Legal.{is_among}
+use Rattle.octi_grid.proofs.Members.{any_from, are_one_from, are_one-refl, one_point, same_test}
+use Rattle.grid_board.specs.declared.bounds.Bounds.{Bounds}
+use Rattle.grid_board.specs.Boards.{empty_board, with_node, with_walk, without_node}
+use Rattle.segment_router.specs.Routes.{has_doubled}
+use Rattle.run_laying.specs.Laying.{board_of, standing_point, standing_points, Sketch}
+use Rattle.run_laying.specs.Sketches.{is_standing, lifted, point_of_node, stood, walk_in, with_walk_of, IsLegalSketch}
+use Rattle.drawing_search.specs.Shown.{bare_sketch}
+use Rattle.run_laying.proofs.Shown.{in_standing, node_shown, shown_node, stands_below}
+
+-- ---- nodes
+
+-- a node that didn't stand stands at a point
+standing_more : (stand : List Bool) (points : List GridPoint) (n : ℕ) (p x : GridPoint) → n < length points → n < length stand → get_or stand n false ≡ false
+    → list_any (λ (q : GridPoint). are_one q x) (filter_map standing_point (zip (set stand n true) (set points n p))) ≡ (are_one p x || list_any (λ (q : GridPoint). are_one q x) (filter_map standing_point (zip stand points)))
+standing_more [] points n p x there below e = absurd (omega (arith, below))
+standing_more (b ∷ bs) [] n p x there below e = absurd (omega (arith, there))
+standing_more (true ∷ bs) (q ∷ qs) zero p x there below e = cc
+standing_more (false ∷ bs) (q ∷ qs) zero p x there below e = refl
+standing_more (true ∷ bs) (q ∷ qs) (suc n) p x there below e =
+    ap (λ t. are_one q x || t) (standing_more bs qs n p x (omega arith) (omega arith) e) ∙ exchanged (are_one q x) (are_one p x) (list_any (λ (q : GridPoint). are_one q x) (filter_map standing_point (zip bs qs)))
+  where
+    exchanged : (s t u : Bool) → (s || (t || u)) ≡ (t || (s || u))
+    exchanged true true u = refl
+    exchanged true false u = refl
+    exchanged false t u = refl
+standing_more (false ∷ bs) (q ∷ qs) (suc n) p x there below e = standing_more bs qs n p x (omega arith) (omega arith) e
+
+pub board_stood : (k : Sketch) (n : NodeId) (p : GridPoint) → n.0 < length k.points → n.0 < length k.stand → is_standing k n.0 ≡ false → board_of (stood k n p) ≡ with_node (board_of k) p
+board_stood k n p there below e = λ i. record {
+  bounds = k.bounds;
+  is_node = λ x. standing_more k.stand k.points n.0 p x there below e i;
+  is_taken = (board_of k).is_taken;
+}
+
+-- a node that stood is taken off
+module _ (graph : GraphParts) (k : Sketch) (h : IsLegalSketch graph k) (n : NodeId) (stands : is_standing k n.0 ≡ true) where
+  abbrev p : GridPoint
+  p = point_of_node k n.0
+
+  abbrev off : Sketch
+  off = lifted k n
+
+  -- a node stands there that stood, and isn't the one
+  off_stands : (m : ℕ) → is_standing off m ≡ true → (is_standing k m ≡ true) × (m ≡ n.0 → ⊥)
+  off_stands m e = by_number (cases_eq m n.0)
+    where
+      by_number : (m ≡ n.0) ⊎ (m ≡ n.0 → ⊥) → (is_standing k m ≡ true) × (m ≡ n.0 → ⊥)
+      by_number (inl i) =
+          absurd (true≢false (sym e ∙ ap (is_standing off) i ∙ get_or-set_same k.stand n.0 false false (omega (arith, stands_below graph k h n.0 stands, h.stand_each))))
+      by_number (inr f) = (sym (get_or-set_other k.stand n.0 m false false f) ∙ e, f)
+
+  still_stands : (m : ℕ) → is_standing k m ≡ true → (m ≡ n.0 → ⊥) → is_standing off m ≡ true
+  still_stands m e f = get_or-set_other k.stand n.0 m false false f ∙ e
+
+  there : (x : GridPoint) → (board_of off).is_node x ≡ true → (not (are_one p x) && (board_of k).is_node x) ≡ true
+  there x e =
+      let at = shown_node off x e in
+      let before = off_stands at.node at.stands in
+      and_from (not (are_one p x)) ((board_of k).is_node x)
+      (not_from (are_one p x) (λ same. before.1 (h.own at.node n.0 before.0 stands (at.there ∙ sym (one_point p x same)))))
+      (subst (λ (q : GridPoint). (board_of k).is_node q ≡ true) at.there (node_shown graph k h at.node before.0))
+    where
+      not_from : (t : Bool) → (t ≡ true → ⊥) → not t ≡ true
+      not_from true f = absurd (f refl)
+      not_from false f = refl
+
+  shown_off : (m : ℕ) → is_standing off m ≡ true → (board_of off).is_node (point_of_node k m) ≡ true
+  shown_off m e = any_from (λ (q : GridPoint). are_one q (point_of_node k m)) (standing_points off) (point_of_node k m) (in_standing off.stand off.points m (length-set k.stand n.0 false ∙ h.stand_each ∙ sym h.points_each) e) (are_one-refl (point_of_node k m))
+
+  back : (x : GridPoint) → (not (are_one p x) && (board_of k).is_node x) ≡ true → (board_of off).is_node x ≡ true
+  back x e =
+      let parts = and_parts (not (are_one p x)) ((board_of k).is_node x) e in
+      let at = shown_node k x parts.1 in
+      subst (λ (q : GridPoint). (board_of off).is_node q ≡ true) at.there
+      (shown_off at.node (still_stands at.node at.stands (λ i. true≢false (sym (are_one_from p x (ap (point_of_node k) (sym i) ∙ at.there)) ∙ not-true (are_one p x) parts.0))))
+
+  pub board_lifted : board_of (lifted k n) ≡ without_node (board_of k) (point_of_node k n.0)
+  board_lifted = λ i. record {
+    bounds = k.bounds;
+    is_node = λ x. same_test ((board_of off).is_node x) (not (are_one p x) && (board_of k).is_node x) (there x) (back x) i;
+    is_taken = (board_of k).is_taken;
+  }
+
+-- ---- walks
+
+-- a segment that had none has a walk
+taken_more : (ws : List (Option PlainWalk)) (s : ℕ) (w : PlainWalk) (d : GridPoint) → s < length ws → get_or ws s None ≡ None → list_any (has_doubled d) (set ws s (Some w)) ≡ (is_among (doubled_of w) d || list_any (has_doubled d) ws)
+taken_more [] s w d below e = absurd (omega (arith, below))
+taken_more (None ∷ ws) zero w d below e = refl
+taken_more (Some v ∷ ws) zero w d below e = cc
+taken_more (o ∷ ws) (suc s) w d below e =
+    ap (λ t. has_doubled d o || t) (taken_more ws s w d (omega arith) e) ∙ exchanged (has_doubled d o) (is_among (doubled_of w) d) (list_any (has_doubled d) ws)
+  where
+    exchanged : (s t u : Bool) → (s || (t || u)) ≡ (t || (s || u))
+    exchanged true true u = refl
+    exchanged true false u = refl
+    exchanged false t u = refl
+
+pub board_walked : (k : Sketch) (s : SegId) (w : PlainWalk) → s.0 < length k.walks → walk_in k s ≡ None → board_of (with_walk_of k s (Some w)) ≡ with_walk (board_of k) w
+board_walked k s w below e = λ i. record {
+  bounds = k.bounds;
+  is_node = (board_of k).is_node;
+  is_taken = λ d. taken_more k.walks s.0 w d below e i;
+}
+
+-- ---- nothing yet
+
+none_stand : (ps : List GridPoint) (x : GridPoint) → list_any (λ (q : GridPoint). are_one q x) (filter_map standing_point (zip (replicate (length ps) false) ps)) ≡ false
+none_stand [] x = refl
+none_stand (p ∷ ps) x = none_stand ps x
+
+none_taken : (n : ℕ) (d : GridPoint) → list_any (has_doubled d) (replicate n (let o : Option PlainWalk = None in o)) ≡ false
+none_taken zero d = refl
+none_taken (suc n) d = none_taken n d
+
+pub board_bare : (bounds : Bounds) (ps : List GridPoint) (n : ℕ) → board_of (bare_sketch bounds ps n) ≡ empty_board bounds
+board_bare bounds ps n = λ i. record { bounds = bounds; is_node = λ x. none_stand ps x i; is_taken = λ d. none_taken n d i }

@@ -1,0 +1,287 @@
+-- Runs that are laid one after another add no less than their bounds say, also those that were made beside fewer walks.
+use Rattle.std.proofs.Common.{◌≡◌, refl, sym, ◌∙◌, ap, ap₂, subst, ℕ, ◌+◌, ◌-◌, ◌/◌, ◌<◌, ◌≤◌, Bool, true, false, cond, eqb, min, List, [], ◌∷◌, length, fold, map, get_or, Option, Some, None, ◌⊎◌, inl, inr, arith, length-set, get_or-set_same}
+use Rattle.std.proofs.Math.Nat.{mul-le-mul_left}
+use Rattle.std.proofs.lemmas.Bool.{cases_eq, eq-eqb, true≢false}
+use Rattle.std.proofs.lemmas.List.Sums.{sum_by-cons}
+use Rattle.std.specs.Int.{bit_at}
+use Rattle.std.specs.List.{flat_map, sum_by}
+use Rattle.std.specs.Prelude.{slice_index}
+use Rattle.map_base.specs.declared.ids.NodeId.{NodeId}
+use Rattle.map_base.specs.declared.ids.SegId.{SegId}
+use Rattle.graph_core.specs.declared.parts.GraphParts.{GraphParts}
+use Rattle.graph_core.specs.Consistent.{IsConsistent}
+use Rattle.line_chains.specs.declared.chain.Chain.{Chain}
+use Rattle.line_chains.specs.declared.chain.ChainStep.{ChainStep}
+use Rattle.line_chains.specs.Chains.{end_after, end_of, ends_of, last_seg}
+use Rattle.octi_grid.specs.declared.dir.Dir.{Dir}
+use Rattle.octi_grid.specs.declared.point.GridPoint.{GridPoint}
+use Rattle.octi_grid.specs.Ways.{after, number_of}
+use Rattle.octi_grid.specs.Walks.{cost_of, end_point, PlainWalk}
+use Rattle.octi_grid.proofs.Fronts.{IsSameOrNone}
+use Rattle.octi_grid.proofs.Members.{from_flat_map, In}
+use Rattle.walk_search.specs.Reaching.{reach_of}
+use Rattle.walk_search.specs.Routes.{allows, directions}
+use Rattle.segment_router.specs.Ports.{is_allowed, stops_from, with_port, with_stop}
+use Rattle.segment_router.specs.Routes.{end_at, port_at_node, port_by}
+use Rattle.segment_router.proofs.ClockLemmas.{bit_told}
+use Rattle.segment_router.proofs.RouteLemmas.{in_filter, route_parts, IsRoute}
+use Rattle.segment_router.proofs.SettledLemmas.{nowhere}
+use Rattle.drawing_weights.specs.Scales.{turn_over, Scale}
+use Rattle.run_laying.specs.Attempts.{inner_nodes}
+use Rattle.run_laying.specs.Laying.{all_laid, board_of, board_under, first_seg_of, if_laid, laid, last_seg_of, with_piece, with_pieces, Sketch}
+use Rattle.run_laying.specs.Runs.{AreBeside, AreSteps, IsRun}
+use Rattle.run_laying.specs.Sketches.{is_standing, point_of_node, walk_in, IsEndOf, IsLegalSketch}
+use Rattle.run_laying.proofs.Attempted.{beside_off, laid_on, still_clear, IsClearFor, IsLaidOn}
+use Rattle.run_laying.proofs.Cuts.{split_end}
+use Rattle.run_laying.proofs.LaidRuns.{same_walk, IsCut}
+use Rattle.run_laying.proofs.RunFacts.{end_below, in_round, leads_from, leads_to, IsOff}
+use Rattle.run_laying.proofs.Shown.{stands_below}
+use Rattle.drawing_search.specs.declared.least.LeastTurns.{LeastTurns}
+use Rattle.drawing_search.specs.Bounds.{gains_at_least, HaveBounds, IsBoundOf}
+use Rattle.drawing_search.specs.Gains.{pairs_at, run_gain, sketch_weight, turn_by, turns_by}
+use Rattle.drawing_search.specs.Least.{allowed_dirs, least_beside, least_by, never, ports_for, straight_way}
+use Rattle.drawing_search.proofs.Gained.{leads_where, run_gained, same_point}
+use Rattle.drawing_search.proofs.PricedRuns.{first_leads}
+use Rattle.drawing_search.proofs.RunBounds.{fold_least, least_allowed, run_no_less, run_within}
+use Rattle.drawing_search.proofs.Spaced.{allowed_fewer}
+use Rattle.drawing_search.proofs.Takable.{on_or_off}
+
+-- ---- bounds beside more walks
+
+-- a drawing has the walks of another, and more of them
+abbrev pub HasMore : Sketch → Sketch → Type 0
+HasMore k j = (t : SegId) → (walk_in k t ≡ None) ⊎ (walk_in k t ≡ walk_in j t)
+
+module _ (graph : GraphParts) (k j : Sketch) (more : HasMore k j) where
+  more_ports : (n : ℕ) (t : SegId) → IsSameOrNone (port_at_node graph (board_under k) n t) (port_at_node graph (board_under j) n t)
+  more_ports n t = by_walk (more t)
+    where
+      by_walk : (walk_in k t ≡ None) ⊎ (walk_in k t ≡ walk_in j t) → IsSameOrNone (port_by (ends_of graph t) n (walk_in k t)) (port_by (ends_of graph t) n (walk_in j t))
+      by_walk (inl e) = inl (ap (port_by (ends_of graph t) n) e)
+      by_walk (inr e) = inr (ap (port_by (ends_of graph t) n) e)
+
+  more_over : (d : Dir) (o p : Option Dir) → IsSameOrNone o p → turn_over (Some d) o ≤ turn_over (Some d) p
+  more_over d o p (inl e) = subst (λ (q : Option Dir). turn_over (Some d) q ≤ turn_over (Some d) p) (sym e) (omega arith)
+  more_over d o p (inr e) = subst (λ (q : Option Dir). turn_over (Some d) q ≤ turn_over (Some d) p) (sym e) (omega arith)
+
+  more_turn : (n : ℕ) (s : SegId) (d : Dir) (pair : SegId × SegId) → turn_by graph k n s d pair ≤ turn_by graph j n s d pair
+  more_turn n s d pair = by_tests (eqb pair.0.0 s.0) (eqb pair.1.0 s.0)
+    where
+      by_tests : (a b : Bool) → cond a (turn_over (Some d) (port_at_node graph (board_under k) n pair.1)) (cond b (turn_over (Some d) (port_at_node graph (board_under k) n pair.0)) 0)
+          ≤ cond a (turn_over (Some d) (port_at_node graph (board_under j) n pair.1)) (cond b (turn_over (Some d) (port_at_node graph (board_under j) n pair.0)) 0)
+      by_tests true b = more_over d (port_at_node graph (board_under k) n pair.1) (port_at_node graph (board_under j) n pair.1) (more_ports n pair.1)
+      by_tests false true = more_over d (port_at_node graph (board_under k) n pair.0) (port_at_node graph (board_under j) n pair.0) (more_ports n pair.0)
+      by_tests false false = omega arith
+
+  more_turns : (n : ℕ) (s : SegId) (d : Dir) → turns_by graph k n s d ≤ turns_by graph j n s d
+  more_turns n s d = summed (pairs_at graph n)
+    where
+      summed : (ps : List (SegId × SegId)) → sum_by (turn_by graph k n s d) ps ≤ sum_by (turn_by graph j n s d) ps
+      summed [] = omega arith
+      summed (p ∷ ps) = omega (arith, summed ps, more_turn n s d p, sum_by-cons (turn_by graph k n s d) p ps, sum_by-cons (turn_by graph j n s d) p ps)
+
+  some_stop : (round : List SegId) (s : SegId) (d : Dir) (f : SegId → Option Dir) (i : ℕ) → In s round → 0 < length (stops_from i (with_port s d f) round)
+  some_stop [] s d f i m = absurd m
+  some_stop (x ∷ xs) s d f i (inl e) =
+      subst (λ (o : Option Dir). 0 < length (with_stop i o (stops_from (i + 1) (with_port s d f) xs))) (sym (ap (λ b. cond b (Some d) (f x)) (eq-eqb s.0 x.0 (ap (λ (t : SegId). t.0) e)))) (omega arith)
+  some_stop (x ∷ xs) s d f i (inr m) = by_port (some_stop xs s d f (i + 1) m) (with_port s d f x)
+    where
+      by_port : 0 < length (stops_from (i + 1) (with_port s d f) xs) → (o : Option Dir) → 0 < length (with_stop i o (stops_from (i + 1) (with_port s d f) xs))
+      by_port rest None = rest
+      by_port rest (Some e) = omega arith
+
+  -- a port that is allowed beside more walks is so beside fewer
+  pub allowed_still : (n : ℕ) (s : SegId) (d : Dir) → In s (get_or graph.rounds n []) → allows (ports_for graph j n s) (Some d) ≡ true → allows (ports_for graph k n s) (Some d) ≡ true
+  allowed_still n s d on e =
+      let round = get_or graph.rounds n [] in
+      let f = port_at_node graph (board_under k) n in
+      let g = port_at_node graph (board_under j) n in
+      bit_told (is_allowed round f s) d ∙ allowed_fewer f g round s d (more_ports n) (some_stop round s d f 0 on) (sym (bit_told (is_allowed round g s) d) ∙ e)
+
+  least_more : (low : ℕ) (xs : List ℕ) (a : ℕ) → a ≤ low → ((x : ℕ) → In x xs → a ≤ x) → a ≤ fold min low xs
+  least_more low [] a h each = h
+  least_more low (x ∷ xs) a h each = least_more (min low x) xs a (omega (arith, h, each x (inl refl))) (λ y i. each y (inr i))
+
+  from_mapped : {X : Type 0} (f : X → ℕ) (xs : List X) (n : ℕ) → In n (map f xs) → (x : X) × In x xs × (n ≡ f x)
+  from_mapped f [] n i = absurd i
+  from_mapped f (x ∷ xs) n (inl e) = (x, inl refl, e)
+  from_mapped f (x ∷ xs) n (inr i) = let rest = from_mapped f xs n i in (rest.0, inr rest.1, rest.2)
+
+  pub bound_still : IsConsistent graph → (scale : Scale) (c : Chain) (way : ℕ) → In (first_seg_of c.steps) (get_or graph.rounds c.from.0 []) → In (last_seg_of c) (get_or graph.rounds (end_of c).0 []) → least_beside scale graph k c way ≤ least_beside scale graph j c way
+  bound_still fit scale c way from_on to_on =
+      least_more never (flat_map (λ d. map (least_by scale graph j c way d) (allowed_dirs graph j (end_of c).0 (last_seg_of c))) (allowed_dirs graph j c.from.0 (first_seg_of c.steps))) (least_beside scale graph k c way)
+      (fold_least never (flat_map (λ d. map (least_by scale graph k c way d) (allowed_dirs graph k (end_of c).0 (last_seg_of c))) (allowed_dirs graph k c.from.0 (first_seg_of c.steps)))) each
+    where
+      of_ports : (d e : Dir) → allows (ports_for graph j c.from.0 (first_seg_of c.steps)) (Some d) ≡ true → allows (ports_for graph j (end_of c).0 (last_seg_of c)) (Some e) ≡ true → least_beside scale graph k c way ≤ least_by scale graph j c way d e
+      of_ports d e leaves arrives =
+          omega (arith, least_allowed scale graph k c way d e (allowed_still c.from.0 (first_seg_of c.steps) d from_on leaves) (allowed_still (end_of c).0 (last_seg_of c) e to_on arrives), mul-le-mul_left scale.overs (more_turns c.from.0 (first_seg_of c.steps) d), mul-le-mul_left scale.overs (more_turns (end_of c).0 (last_seg_of c) e))
+
+      each : (x : ℕ) → In x (flat_map (λ d. map (least_by scale graph j c way d) (allowed_dirs graph j (end_of c).0 (last_seg_of c))) (allowed_dirs graph j c.from.0 (first_seg_of c.steps))) → least_beside scale graph k c way ≤ x
+      each x i =
+          let found = from_flat_map (λ d. map (least_by scale graph j c way d) (allowed_dirs graph j (end_of c).0 (last_seg_of c))) (allowed_dirs graph j c.from.0 (first_seg_of c.steps)) x i in
+          let other = from_mapped (least_by scale graph j c way found.0) (allowed_dirs graph j (end_of c).0 (last_seg_of c)) x found.2 in
+          let leaves = in_filter (λ d. eqb (bit_at (ports_for graph j c.from.0 (first_seg_of c.steps)) (number_of d)) 1) directions found.0 found.1 in
+          let arrives = in_filter (λ d. eqb (bit_at (ports_for graph j (end_of c).0 (last_seg_of c)) (number_of d)) 1) directions other.0 other.1 in
+          subst (λ n. least_beside scale graph k c way ≤ n) (sym other.2) (of_ports found.0 other.0 leaves.0 arrives.0)
+
+-- ---- one run
+
+-- the end of a run stays where it was
+end_there : (graph : GraphParts) (n : NodeId) (ts : List ChainStep) (vs : List PlainWalk) (k : Sketch) (w : PlainWalk) → length vs ≡ length ts → IsCut w vs → (end_after n ts).0 < length k.points → point_of_node (with_pieces graph n ts vs k) (end_after n ts).0 ≡ end_point w
+end_there graph n [] [] k w each cut below = absurd cut
+end_there graph n [] (v ∷ vs) k w each cut below = absurd (omega (arith, each))
+end_there graph n (t ∷ ts) [] k w each cut below = absurd cut
+end_there graph n (t ∷ []) (v ∷ x ∷ xs) k w each cut below = absurd (omega (arith, each))
+end_there graph n (t ∷ u ∷ us) (v ∷ []) k w each cut below = absurd (omega (arith, each))
+end_there graph n (t ∷ []) (v ∷ []) k w each cut below = get_or-set_same k.points t.to.0 (end_point v) nowhere below ∙ ap end_point cut.0
+end_there graph n (t ∷ u ∷ us) (v ∷ x ∷ xs) k w each cut below =
+    end_there graph t.to (u ∷ us) (x ∷ xs) (with_piece graph n t v k) cut.0 (omega (arith, each)) cut.2 (omega (arith, below, length-set k.points t.to.0 (end_point v))) ∙ sym (split_end w v cut.0 cut.1)
+
+-- the first and the last segment of a run end where it does
+pub first_end : (graph : GraphParts) (n : NodeId) (ts : List ChainStep) → AreSteps graph n ts → 0 < length ts → ((first_seg_of ts).0 < length graph.ends) × IsEndOf graph (first_seg_of ts) n.0
+first_end graph n [] steps some = absurd (omega (arith, some))
+first_end graph n (t ∷ ts) steps some = let on = first_leads graph n t ts steps in (on.0, leads_from graph n t on.1)
+
+pub last_end : (graph : GraphParts) (s : SegId) (n : NodeId) (ts : List ChainStep) → AreSteps graph n ts → 0 < length ts → ((last_seg s ts).0 < length graph.ends) × IsEndOf graph (last_seg s ts) (end_after n ts).0
+last_end graph s n [] steps some = absurd (omega (arith, some))
+last_end graph s n (t ∷ []) steps some = (steps.0, leads_to graph n t steps.1)
+last_end graph s n (t ∷ u ∷ us) steps some = last_end graph t.seg t.to (u ∷ us) steps.3 (omega arith)
+
+same_ends : (graph : GraphParts) (c : Chain) (k : Sketch) (pieces : List PlainWalk) → IsClearFor k c → point_of_node (with_pieces graph c.from c.steps pieces k) (end_of c).0 ≡ point_of_node k (end_of c).0 → (m : ℕ) → is_standing k m ≡ true
+    → point_of_node (with_pieces graph c.from c.steps pieces k) m ≡ point_of_node k m
+same_ends graph c k pieces clear there m stands = by_end (cases_eq m (end_of c).0)
+  where
+    by_end : (m ≡ (end_of c).0) ⊎ (m ≡ (end_of c).0 → ⊥) → point_of_node (with_pieces graph c.from c.steps pieces k) m ≡ point_of_node k m
+    by_end (inl e) = ap (point_of_node (with_pieces graph c.from c.steps pieces k)) e ∙ there ∙ ap (point_of_node k) (sym e)
+    by_end (inr other) = same_point graph c.from c.steps pieces k m off
+      where
+        off : (q : ChainStep) → In q c.steps → q.to.0 ≡ m → ⊥
+        off q i e = by_place (leads_where c.from c.steps q i)
+          where
+            by_place : (q.to.0 ≡ (end_of c).0) ⊎ ((p : NodeId) × In p (inner_nodes c.steps) × (p.0 ≡ q.to.0)) → ⊥
+            by_place (inl a) = other (sym e ∙ a)
+            by_place (inr (p, j, f)) = true≢false (sym stands ∙ ap (is_standing k) (sym e ∙ sym f) ∙ clear.inner p j)
+
+-- so a node that stood stays where it was
+pub same_standing_points : (graph : GraphParts) (c : Chain) (k mid : Sketch) → IsLegalSketch graph k → IsClearFor k c → (on : IsLaidOn graph c k mid) → (m : ℕ) → is_standing k m ≡ true
+    → point_of_node (with_pieces graph c.from c.steps on.pieces k) m ≡ point_of_node k m
+same_standing_points graph c k mid h clear on m stands =
+    same_ends graph c k on.pieces clear (end_there graph c.from c.steps on.pieces k on.walk on.each on.cut (omega (arith, stands_below graph k h (end_of c).0 clear.end, h.points_each)) ∙ on.free.end) m stands
+
+module _ (graph : GraphParts) (fit : IsConsistent graph) (scale : Scale) (first : List GridPoint) where
+  -- what a run that was laid adds
+  pub record IsGained (c : Chain) (k new : Sketch) (l : LeastTurns) (walk : PlainWalk) : Type 0 where
+    pub weight : sketch_weight scale graph first new ≡ sketch_weight scale graph first k + run_gain scale graph first new c
+    pub no_less : reach_of (point_of_node k c.from.0) (point_of_node k (end_of c).0) + slice_index l.by (straight_way (point_of_node k c.from.0) (point_of_node k (end_of c).0)) ≤ run_gain scale graph first new c
+    pub within : (may : ℕ) → run_gain scale graph first new c ≤ may
+        → cost_of walk
+        ≤ cond (eqb l.per_turn 0) (may - slice_index l.by (straight_way (point_of_node k c.from.0) (point_of_node k (end_of c).0)) + l.free_turns)
+        (may - slice_index l.by (straight_way (point_of_node k c.from.0) (point_of_node k (end_of c).0)) + slice_index l.by (straight_way (point_of_node k c.from.0) (point_of_node k (end_of c).0)) / l.per_turn)
+
+  pub gained : (c : Chain) (k new : Sketch) (l : LeastTurns) → IsLegalSketch graph k → IsRun graph c → IsClearFor k c → IsBoundOf scale graph k c l → (on : IsLaidOn graph c k new) → IsGained c k new l on.walk
+  gained c k new l h run clear bound on =
+      subst (λ (j : Sketch). IsGained c k j l on.walk) on.is
+      (record {
+        weight = run_gained graph fit k h c run clear on.pieces on.each there scale first;
+        no_less = run_no_less graph fit k h c run clear on.pieces on.each there scale first on.walk on.cut some on.free.start on.free.end r.leaves r.arrives l bound;
+        within = run_within graph fit k h c run clear on.pieces on.each there scale first on.walk on.cut some on.free.start on.free.end r.leaves r.arrives l bound;
+      })
+    where
+      r : IsRoute (board_of k) (end_at graph (board_under k) (first_seg_of c.steps) c.from.0) (end_at graph (board_under k) (last_seg_of c) (end_of c).0) on.walk
+      r = route_parts (board_of k) (end_at graph (board_under k) (first_seg_of c.steps) c.from.0) (end_at graph (board_under k) (last_seg_of c) (end_of c).0) on.walk on.route
+
+      there : point_of_node (with_pieces graph c.from c.steps on.pieces k) (end_of c).0 ≡ point_of_node k (end_of c).0
+      there = end_there graph c.from c.steps on.pieces k on.walk on.each on.cut (omega (arith, stands_below graph k h (end_of c).0 clear.end, h.points_each)) ∙ on.free.end
+
+      some : 0 < length on.walk.steps
+      some = steps_some on.walk (λ e. run.apart (h.own c.from.0 (end_of c).0 clear.from clear.end (sym on.free.start ∙ e ∙ on.free.end)))
+        where
+          steps_some : (w : PlainWalk) → (w.start ≡ end_point w → ⊥) → 0 < length w.steps
+          steps_some w f = by_steps w.steps refl
+            where
+              by_steps : (ds : List Dir) → w.steps ≡ ds → 0 < length w.steps
+              by_steps [] e = absurd (f (sym (ap (after w.start) e)))
+              by_steps (d ∷ ds) e = omega (arith, ap length e)
+
+  -- ---- runs one after another
+
+  pub bounds_still : (k j : Sketch) → HasMore k j → (cs : List Chain) (ls : List LeastTurns) → ((c : Chain) → In c cs → IsRun graph c) → HaveBounds scale graph k cs ls → HaveBounds scale graph j cs ls
+  bounds_still k j more [] ls runs have = tt
+  bounds_still k j more (c ∷ cs) [] runs have = have
+  bounds_still k j more (c ∷ cs) (l ∷ ls) runs have = (
+    record {
+      by = λ way few. omega (arith, have.0.by way few, bound_still graph k j more fit scale c way (in_first_round run) (in_last_round run));
+      price = have.0.price;
+      free = have.0.free;
+    },
+    bounds_still k j more cs ls (λ d i. runs d (inr i)) have.1,
+  )
+    where
+      run : IsRun graph c
+      run = runs c (inl refl)
+
+      in_first_round : IsRun graph c → In (first_seg_of c.steps) (get_or graph.rounds c.from.0 [])
+      in_first_round r = let at = first_end graph c.from c.steps r.steps r.some in in_round graph fit (first_seg_of c.steps) c.from.0 at.0 (end_below graph fit (first_seg_of c.steps) c.from.0 at.0 at.1) at.1
+
+      in_last_round : IsRun graph c → In (last_seg_of c) (get_or graph.rounds (end_of c).0 [])
+      in_last_round r = let at = last_end graph (first_seg_of c.steps) c.from c.steps r.steps r.some in in_round graph fit (last_seg_of c) (end_of c).0 at.0 (end_below graph fit (last_seg_of c) (end_of c).0 at.0 at.1) at.1
+
+  has_more : (n : NodeId) (ts : List ChainStep) (vs : List PlainWalk) (k : Sketch) → ((q : ChainStep) → In q ts → walk_in k q.seg ≡ None) → HasMore k (with_pieces graph n ts vs k)
+  has_more n ts vs k none t = by_run (on_or_off ts t)
+    where
+      by_run : ((q : ChainStep) × In q ts × (q.seg.0 ≡ t.0)) ⊎ IsOff ts t → (walk_in k t ≡ None) ⊎ (walk_in k t ≡ walk_in (with_pieces graph n ts vs k) t)
+      by_run (inl (q, i, e)) = inl (ap (λ m. get_or k.walks m None) (sym e) ∙ none q i)
+      by_run (inr off) = inr (sym (same_walk graph n ts vs k t off))
+
+  pub same_gains : (f g : NodeId → GridPoint) (cs : List Chain) (ls : List LeastTurns) → ((c : Chain) → In c cs → (f c.from ≡ g c.from) × (f (end_of c) ≡ g (end_of c))) → gains_at_least f cs ls ≡ gains_at_least g cs ls
+  same_gains f g [] ls same = refl
+  same_gains f g (c ∷ cs) [] same = refl
+  same_gains f g (c ∷ cs) (l ∷ ls) same =
+      let here = same c (inl refl) in
+      ap₂ (λ (a b : GridPoint). reach_of a b + slice_index l.by (straight_way a b) + gains_at_least f cs ls) here.0 here.1
+      ∙ ap (λ n. reach_of (g c.from) (g (end_of c)) + slice_index l.by (straight_way (g c.from) (g (end_of c))) + n) (same_gains f g cs ls (λ d i. same d (inr i)))
+
+  -- what one run leaves for the others
+  pub more_walks : (c : Chain) (k mid : Sketch) → IsClearFor k c → IsLaidOn graph c k mid → HasMore k mid
+  more_walks c k mid clear on = subst (HasMore k) on.is (has_more c.from c.steps on.pieces k clear.walks)
+
+  pub gains_stay : (c : Chain) (k mid : Sketch) → IsLegalSketch graph k → IsClearFor k c → IsLaidOn graph c k mid → (cs : List Chain) (ls : List LeastTurns) → ((d : Chain) → In d cs → IsClearFor k d)
+      → gains_at_least (λ (n : NodeId). point_of_node mid n.0) cs ls ≡ gains_at_least (λ (n : NodeId). point_of_node k n.0) cs ls
+  gains_stay c k mid h clear on cs ls others =
+      same_gains (λ (n : NodeId). point_of_node mid n.0) (λ (n : NodeId). point_of_node k n.0) cs ls
+      (λ d i. (ap (λ (j : Sketch). point_of_node j d.from.0) (sym on.is) ∙ same_ends graph c k on.pieces clear there d.from.0 (others d i).from, ap (λ (j : Sketch). point_of_node j (end_of d).0) (sym on.is) ∙ same_ends graph c k on.pieces clear there (end_of d).0 (others d i).end))
+    where
+      there : point_of_node (with_pieces graph c.from c.steps on.pieces k) (end_of c).0 ≡ point_of_node k (end_of c).0
+      there = end_there graph c.from c.steps on.pieces k on.walk on.each on.cut (omega (arith, stands_below graph k h (end_of c).0 clear.end, h.points_each)) ∙ on.free.end
+
+  -- all of them add no less than their bounds together
+  pub rest_no_less : (cs : List Chain) (ls : List LeastTurns) (k fin : Sketch) → IsLegalSketch graph k → ((c : Chain) → In c cs → IsRun graph c) → AreBeside cs → ((c : Chain) → In c cs → IsClearFor k c) → HaveBounds scale graph k cs ls → all_laid graph cs k ≡ Some fin
+      → sketch_weight scale graph first k + gains_at_least (λ (n : NodeId). point_of_node k n.0) cs ls ≤ sketch_weight scale graph first fin
+  rest_no_less [] ls k fin h runs beside clear have e = let same : k ≡ fin = cc in omega (arith, ap (sketch_weight scale graph first) same)
+  rest_no_less (c ∷ cs) [] k fin h runs beside clear have e = absurd have
+  rest_no_less (c ∷ cs) (l ∷ ls) k fin h runs beside clear have e =
+      by_laid (λ mid legal ready bounds found. rest_no_less cs ls mid fin legal (λ d i. runs d (inr i)) beside.1 ready bounds found) (laid graph c k) refl e
+    where
+      here : IsClearFor k c
+      here = clear c (inl refl)
+
+      run : IsRun graph c
+      run = runs c (inl refl)
+
+      Rest : Type 0
+      Rest = (mid : Sketch) → IsLegalSketch graph mid → ((d : Chain) → In d cs → IsClearFor mid d) → HaveBounds scale graph mid cs ls → all_laid graph cs mid ≡ Some fin
+          → sketch_weight scale graph first mid + gains_at_least (λ (n : NodeId). point_of_node mid n.0) cs ls ≤ sketch_weight scale graph first fin
+
+      of_laid : Rest → (mid : Sketch) → IsLaidOn graph c k mid → all_laid graph cs mid ≡ Some fin → sketch_weight scale graph first k + gains_at_least (λ (n : NodeId). point_of_node k n.0) (c ∷ cs) (l ∷ ls) ≤ sketch_weight scale graph first fin
+      of_laid rest mid on found =
+          let g = gained c k mid l h run here have.0 on in
+          let more = more_walks c k mid here on in
+          let later = rest mid on.legal
+          (λ d i. subst (λ (j : Sketch). IsClearFor j d) on.is (still_clear graph fit c d on.pieces k run (runs d (inr i)) (λ q p on_c on_d. beside_off c cs beside d i q p on_c on_d) (clear d (inr i))))
+          (bounds_still k mid more cs ls (λ d i. runs d (inr i)) have.1) found in
+          let same = gains_stay c k mid h here on cs ls (λ d i. clear d (inr i)) in
+          omega (arith, g.weight, g.no_less, later, same)
+
+      by_laid : Rest → (o : Option Sketch) → laid graph c k ≡ o → if_laid (all_laid graph cs) o ≡ Some fin → sketch_weight scale graph first k + gains_at_least (λ (n : NodeId). point_of_node k n.0) (c ∷ cs) (l ∷ ls) ≤ sketch_weight scale graph first fin
+      by_laid rest None is found = cc
+      by_laid rest (Some mid) is found = of_laid rest mid (laid_on graph fit c k mid h run here is) found

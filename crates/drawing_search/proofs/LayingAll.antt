@@ -1,0 +1,99 @@
+-- Runs of an attempt are laid one after another, and given up as soon as the drawing can't get lighter by it.
+use Rattle.std.proofs.Common.{◌≡◌, refl, sym, ◌∙◌, ap, subst, ℕ, ◌+◌, ◌≤◌, Bool, true, false, cond, nat_le, nat_lt, List, ◌∷◌, Option, Some, None, inl, inr, arith}
+use Rattle.std.proofs.lemmas.Bool.{le-leb}
+use Rattle.std.proofs.lemmas.Bool.Decides.{nat_tests}
+use Rattle.map_base.specs.declared.ids.NodeId.{NodeId}
+use Rattle.graph_core.specs.declared.parts.GraphParts.{GraphParts}
+use Rattle.graph_core.specs.Consistent.{IsConsistent}
+use Rattle.line_chains.specs.declared.chain.Chain.{Chain}
+use Rattle.octi_grid.specs.declared.point.GridPoint.{GridPoint}
+use Rattle.octi_grid.specs.Walks.{cost_of, PlainWalk}
+use Rattle.octi_grid.proofs.Members.{In}
+use Rattle.walk_search.specs.Routes.{if_within}
+use Rattle.drawing_weights.specs.Scales.{Scale}
+use Rattle.run_laying.specs.Laying.{all_laid, board_under, if_laid, laid, laid_along, run_walk, Sketch}
+use Rattle.run_laying.specs.Runs.{AreBeside, IsRun}
+use Rattle.run_laying.specs.Sketches.{point_of_node, IsLegalSketch}
+use Rattle.run_laying.proofs.Attempted.{beside_off, laid_on, still_clear, IsClearFor, IsLaidOn}
+use Rattle.drawing_search.specs.declared.least.LeastTurns.{LeastTurns}
+use Rattle.drawing_search.specs.Bounds.{gains_at_least, HaveBounds}
+use Rattle.drawing_search.specs.Gains.{run_gain, sketch_weight}
+use Rattle.drawing_search.specs.Tries.{if_below}
+use Rattle.drawing_search.specs.Trying.{laid_within}
+use Rattle.drawing_search.proofs.LaidAll.{bounds_still, gained, gains_stay, more_walks, rest_no_less, IsGained}
+
+-- runs that may be laid on a sketch, with their bounds
+pub record IsReady (scale : Scale) (graph : GraphParts) (k : Sketch) (cs : List Chain) (ls : List LeastTurns) : Type 0 where
+  pub legal : IsLegalSketch graph k
+  pub runs : (c : Chain) → In c cs → IsRun graph c
+  pub beside : AreBeside cs
+  pub clear : (c : Chain) → In c cs → IsClearFor k c
+  pub have : HaveBounds scale graph k cs ls
+
+-- what runs add at least where nodes stand in a sketch
+abbrev pub least_of : Sketch → List Chain → List LeastTurns → ℕ
+least_of k cs ls = gains_at_least (λ (n : NodeId). point_of_node k n.0) cs ls
+
+below_none : (weigh : Sketch → ℕ) (weight : ℕ) (fin : Sketch) → weight ≤ weigh fin → if_below weigh weight (Some fin) ≡ None
+below_none weigh weight fin h = let no : nat_lt (weigh fin) weight ≡ false = grind (arith, nat_tests, h) in ap (λ b. cond b (Some fin) None) no
+
+pub within_laid : (graph : GraphParts) (most : ℕ) (c : Chain) (k : Sketch) (w : PlainWalk) → run_walk graph (board_under k) c ≡ Some w → cost_of w ≤ most → laid_within graph most c k ≡ laid graph c k
+within_laid graph most c k w is few =
+    ap (λ (o : Option PlainWalk). laid_along graph c k (if_within most o)) is
+    ∙ ap (λ b. laid_along graph c k (cond b (Some w) None)) (le-leb (cost_of w) most few)
+    ∙ ap (laid_along graph c k) (sym is)
+
+pub laid_from_within : (graph : GraphParts) (most : ℕ) (c : Chain) (k mid : Sketch) → laid_within graph most c k ≡ Some mid → laid graph c k ≡ Some mid
+laid_from_within graph most c k mid e = by_walk (run_walk graph (board_under k) c) e
+  where
+    by_walk : (o : Option PlainWalk) → laid_along graph c k (if_within most o) ≡ Some mid → laid_along graph c k o ≡ Some mid
+    by_walk None f = cc
+    by_walk (Some w) f = by_test (nat_le (cost_of w) most) f
+      where
+        by_test : (t : Bool) → laid_along graph c k (cond t (Some w) None) ≡ Some mid → laid_along graph c k (Some w) ≡ Some mid
+        by_test true g = g
+        by_test false g = cc
+
+module _ (graph : GraphParts) (fit : IsConsistent graph) (scale : Scale) (first : List GridPoint) where
+  abbrev weigh : Sketch → ℕ
+  weigh k = sketch_weight scale graph first k
+
+  -- where the rest of the runs can't get it below a weight
+  pub too_heavy : (weight : ℕ) (cs : List Chain) (ls : List LeastTurns) (k : Sketch) → IsReady scale graph k cs ls → weight ≤ sketch_weight scale graph first k + least_of k cs ls → if_below (sketch_weight scale graph first) weight (all_laid graph cs k) ≡ None
+  too_heavy weight cs ls k ready heavy = by_laid (all_laid graph cs k) refl
+    where
+      by_laid : (o : Option Sketch) → all_laid graph cs k ≡ o → if_below (sketch_weight scale graph first) weight o ≡ None
+      by_laid None is = refl
+      by_laid (Some fin) is = below_none (sketch_weight scale graph first) weight fin (omega (arith, heavy, rest_no_less graph fit scale first cs ls k fin ready.legal ready.runs ready.beside ready.clear ready.have is))
+
+  module _ (c : Chain) (cs : List Chain) (l : LeastTurns) (ls : List LeastTurns) (k : Sketch) (ready : IsReady scale graph k (c ∷ cs) (l ∷ ls)) where
+    -- the next run is laid
+    on : (mid : Sketch) → laid graph c k ≡ Some mid → IsLaidOn graph c k mid
+    on mid e = laid_on graph fit c k mid ready.legal (ready.runs c (inl refl)) (ready.clear c (inl refl)) e
+
+    pub next_ready : (mid : Sketch) → laid graph c k ≡ Some mid → IsReady scale graph mid cs ls
+    next_ready mid e =
+        let o = on mid e in
+        record {
+          legal = o.legal;
+          runs = λ d i. ready.runs d (inr i);
+          beside = ready.beside.1;
+          clear = λ d i.
+              subst (λ (j : Sketch). IsClearFor j d) o.is
+              (still_clear graph fit c d o.pieces k (ready.runs c (inl refl)) (ready.runs d (inr i)) (λ q p on_c on_d. beside_off c cs ready.beside d i q p on_c on_d) (ready.clear d (inr i)));
+          have = bounds_still graph fit scale first k mid (more_walks graph fit scale first c k mid (ready.clear c (inl refl)) o) cs ls (λ d i. ready.runs d (inr i)) ready.have.1;
+        }
+
+    pub same_least : (mid : Sketch) → laid graph c k ≡ Some mid → least_of mid cs ls ≡ least_of k cs ls
+    same_least mid e = gains_stay graph fit scale first c k mid ready.legal (ready.clear c (inl refl)) (on mid e) cs ls (λ d i. ready.clear d (inr i))
+
+    pub next_gained : (mid : Sketch) (e : laid graph c k ≡ Some mid) → IsGained graph fit scale first c k mid l (on mid e).walk
+    next_gained mid e = gained graph fit scale first c k mid l ready.legal (ready.runs c (inl refl)) (ready.clear c (inl refl)) ready.have.0 (on mid e)
+
+    -- where it leaves no room below a weight, the drawing gets no lighter
+    pub no_room : (weight : ℕ) → ((mid : Sketch) → laid graph c k ≡ Some mid → weight ≤ sketch_weight scale graph first k + run_gain scale graph first mid c + least_of k cs ls) → if_below (sketch_weight scale graph first) weight (all_laid graph (c ∷ cs) k) ≡ None
+    no_room weight heavy = by_laid (laid graph c k) refl
+      where
+        by_laid : (o : Option Sketch) → laid graph c k ≡ o → if_below (sketch_weight scale graph first) weight (if_laid (all_laid graph cs) o) ≡ None
+        by_laid None is = refl
+        by_laid (Some mid) is = too_heavy weight cs ls mid (next_ready mid is) (omega (arith, heavy mid is, (next_gained mid is).weight, same_least mid is))

@@ -1,0 +1,242 @@
+-- A group is taken off a whole drawing: its runs one after another, then its nodes; and each run gets its bounds.
+use Rattle.std.proofs.Common.{◌≡◌, sym, ◌∙◌, ap, ap₂, subst, ℕ, ◌+◌, ◌<◌, ◌≤◌, true, List, [], ◌∷◌, ◌++◌, length, fold, map, take, get_or, arith, length-append}
+use Rattle.std.proofs.lemmas.List.{flat_map_more, map_more, take_all, take_more}
+use Rattle.std.proofs.lemmas.List.Elements.{All-push}
+use Rattle.std.proofs.lemmas.List.Sums.{fold_more}
+use Rattle.std.specs.List.{flat_map}
+use Rattle.std.specs.Prelude.{All}
+use Rattle.map_base.specs.declared.ids.NodeId.{NodeId}
+use Rattle.map_base.specs.declared.ids.SegId.{SegId}
+use Rattle.graph_core.specs.declared.parts.GraphParts.{GraphParts}
+use Rattle.graph_core.specs.Consistent.{IsConsistent}
+use Rattle.line_chains.specs.declared.chain.Chain.{Chain}
+use Rattle.octi_grid.specs.declared.point.GridPoint.{GridPoint}
+use Rattle.octi_grid.specs.Walks.{PlainWalk}
+use Rattle.segment_router.proofs.SettledLemmas.{nowhere}
+use Rattle.drawing_weights.specs.Scales.{Scale}
+use Rattle.grid_board.specs.Points.{is_near}
+use Rattle.run_laying.specs.Laying.{Sketch}
+use Rattle.run_laying.specs.Sketches.{is_standing, lifted, point_of_node, IsLegalSketch}
+use Rattle.run_laying.proofs.Shown.{stands_below}
+use Rattle.drawing_search.specs.declared.group.Group.{Group}
+use Rattle.drawing_search.specs.declared.least.LeastTurns.{LeastTurns}
+use Rattle.drawing_search.specs.declared.lifting.Lifted.{Lifted}
+use Rattle.drawing_search.specs.Alike.{AreAlike}
+use Rattle.drawing_search.specs.Bounds.{HaveLeast, IsLeastOf, IsSmallLeast}
+use Rattle.drawing_search.specs.Changes.{without_run, IsTakable}
+use Rattle.drawing_search.specs.Gains.{apart_in, run_gain, sketch_weight}
+use Rattle.drawing_search.specs.Lifting.{points_along, put_back, walks_along, CanPutBack, IsLifted}
+use Rattle.drawing_search.specs.Tries.{taken_off}
+use Rattle.drawing_search.specs.Trying.{IsWhole}
+use Rattle.drawing_search.proofs.Lifts.{all_liftable, can_put_back, legal_then, lifted_at, node_weighs, off_alike, put_back_is, run_weighs_then, same_points_along, same_walks_along, taken, IsGroup}
+use Rattle.drawing_search.proofs.Nearby.{stands_near}
+use Rattle.drawing_search.proofs.TakenBack.{lift_legal, lift_points, runs_points}
+
+-- one run more has its bounds
+have_push : (scale : Scale) (graph : GraphParts) (k : Sketch) (cs : List Chain) (ls : List LeastTurns) (c : Chain) (l : LeastTurns) → length ls ≡ length cs → HaveLeast scale graph k cs ls → IsLeastOf scale graph k c l → HaveLeast scale graph k (cs ++ c ∷ []) (ls ++ l ∷ [])
+have_push scale graph k [] [] c l each have one = (one, tt)
+have_push scale graph k [] (m ∷ ms) c l each have one = absurd (omega (arith, each))
+have_push scale graph k (d ∷ cs) [] c l each have one = absurd have
+have_push scale graph k (d ∷ cs) (m ∷ ms) c l each have one = (have.0, have_push scale graph k cs ms c l (omega (arith, each)) have.1 one)
+
+-- so many runs were taken off
+pub record AreRunsLifted (scale : Scale) (graph : GraphParts) (first : List GridPoint) (old : Sketch) (runs : List Chain) (i : ℕ) (k : Sketch) (l : Lifted) : Type 0 where
+  pub sketch : k ≡ fold without_run old (take i runs)
+  pub walks : l.walks.items ≡ flat_map (λ (c : Chain). walks_along old c.steps) (take i runs)
+  pub inner : l.inner.items ≡ flat_map (λ (c : Chain). points_along old c.steps) (take i runs)
+  pub moved : l.moved.items ≡ []
+  pub rest : l.rest ≡ sketch_weight scale graph first k
+  pub light : l.rest ≤ sketch_weight scale graph first old
+  pub least : l.least.items ≡ []
+
+-- and so many nodes
+pub record AreNodesLifted (scale : Scale) (graph : GraphParts) (first : List GridPoint) (old : Sketch) (nodes : List NodeId) (runs : List Chain) (i : ℕ) (k : Sketch) (l : Lifted) : Type 0 where
+  pub sketch : k ≡ fold lifted (fold without_run old runs) (take i nodes)
+  pub walks : l.walks.items ≡ flat_map (λ (c : Chain). walks_along old c.steps) runs
+  pub inner : l.inner.items ≡ flat_map (λ (c : Chain). points_along old c.steps) runs
+  pub moved : l.moved.items ≡ map (λ (n : NodeId). (n, point_of_node old n.0)) (take i nodes)
+  pub rest : l.rest ≡ sketch_weight scale graph first k
+  pub light : l.rest ≤ sketch_weight scale graph first old
+  pub least : l.least.items ≡ []
+
+-- all of it is off, and so many runs have their bounds
+pub record AreLeastLifted (scale : Scale) (graph : GraphParts) (first : List GridPoint) (old : Sketch) (nodes : List NodeId) (runs : List Chain) (i : ℕ) (k : Sketch) (l : Lifted) : Type 0 where
+  pub sketch : k ≡ fold lifted (fold without_run old runs) nodes
+  pub walks : l.walks.items ≡ flat_map (λ (c : Chain). walks_along old c.steps) runs
+  pub inner : l.inner.items ≡ flat_map (λ (c : Chain). points_along old c.steps) runs
+  pub moved : l.moved.items ≡ map (λ (n : NodeId). (n, point_of_node old n.0)) nodes
+  pub rest : l.rest ≡ sketch_weight scale graph first k
+  pub light : l.rest ≤ sketch_weight scale graph first old
+  pub each : length l.least.items ≡ length (take i runs)
+  pub least : HaveLeast scale graph k (take i runs) l.least.items
+  pub small : All IsSmallLeast l.least.items
+
+module _ (graph : GraphParts) (fit : IsConsistent graph) (old : Sketch) (h : IsLegalSketch graph old) (whole : IsWhole old) (nodes : List NodeId) (runs : List Chain) (g : IsGroup graph nodes runs) (scale : Scale) (first : List GridPoint) where
+  abbrev weigh : Sketch → ℕ
+  weigh k = sketch_weight scale graph first k
+
+  -- ---- runs
+
+  pub runs_begin : (k : Sketch) (l : Lifted) → k ≡ old → l.walks.items ≡ [] → l.inner.items ≡ [] → l.moved.items ≡ [] → l.rest ≡ sketch_weight scale graph first old → l.least.items ≡ [] → AreRunsLifted scale graph first old runs 0 k l
+  runs_begin k l is walks inner moved rest least = record {
+    sketch = is;
+    walks = walks;
+    inner = inner;
+    moved = moved;
+    rest = rest ∙ ap (sketch_weight scale graph first) (sym is);
+    light = omega (arith, rest);
+    least = least;
+  }
+
+  module _ (i : ℕ) (d : Chain) (below : i < length runs) (k : Sketch) (l : Lifted) (a : AreRunsLifted scale graph first old runs i k l) where
+    -- the next one may be
+    pub run_ready : IsTakable graph k (get_or runs i d)
+    run_ready = subst (λ (j : Sketch). IsTakable graph j (get_or runs i d)) (sym a.sketch) (taken graph fit old h whole nodes runs g i d below)
+
+    pub run_less : sketch_weight scale graph first k ≡ sketch_weight scale graph first (without_run k (get_or runs i d)) + run_gain scale graph first k (get_or runs i d)
+    run_less =
+        subst (λ (j : Sketch). sketch_weight scale graph first j ≡ sketch_weight scale graph first (without_run j (get_or runs i d)) + run_gain scale graph first j (get_or runs i d)) (sym a.sketch)
+        (run_weighs_then graph fit old h whole nodes runs g i d below scale first)
+
+    pub run_lifted : (new : Sketch) (m : Lifted) → new ≡ without_run k (get_or runs i d) → m.walks.items ≡ l.walks.items ++ walks_along k (get_or runs i d).steps → m.inner.items ≡ l.inner.items ++ points_along k (get_or runs i d).steps
+        → m.moved.items ≡ l.moved.items → m.rest + run_gain scale graph first k (get_or runs i d) ≡ l.rest → m.least.items ≡ l.least.items → AreRunsLifted scale graph first old runs (i + 1) new m
+    run_lifted new m is walks inner moved rest least = record {
+      sketch = is ∙ ap (λ (j : Sketch). without_run j (get_or runs i d)) a.sketch ∙ sym (fold_more without_run old runs i d below);
+      walks =
+          walks
+          ∙ ap₂ (λ (xs ys : List (SegId × PlainWalk)). xs ++ ys) a.walks (ap (λ (j : Sketch). walks_along j (get_or runs i d).steps) a.sketch ∙ same_walks_along graph fit old h whole nodes runs g i d below)
+          ∙ flat_map_more (λ (c : Chain). walks_along old c.steps) [] (take i runs) (get_or runs i d)
+          ∙ ap (flat_map (λ (c : Chain). walks_along old c.steps)) (sym (take_more runs i d below));
+      inner =
+          inner
+          ∙ ap₂ (λ (xs ys : List (NodeId × GridPoint)). xs ++ ys) a.inner (ap (λ (j : Sketch). points_along j (get_or runs i d).steps) a.sketch ∙ same_points_along graph fit old h whole nodes runs g i d below)
+          ∙ flat_map_more (λ (c : Chain). points_along old c.steps) [] (take i runs) (get_or runs i d)
+          ∙ ap (flat_map (λ (c : Chain). points_along old c.steps)) (sym (take_more runs i d below));
+      moved = moved ∙ a.moved;
+      rest = let less = run_less in let there = ap (sketch_weight scale graph first) is in omega (arith, less, there, rest, a.rest);
+      light = omega (arith, rest, a.light);
+      least = least ∙ a.least;
+    }
+
+  -- ---- nodes
+
+  abbrev k1 : Sketch
+  k1 = fold without_run old runs
+
+  pub nodes_begin : (i : ℕ) (k : Sketch) (l : Lifted) → length runs ≤ i → AreRunsLifted scale graph first old runs i k l → AreNodesLifted scale graph first old nodes runs 0 k l
+  nodes_begin i k l past a = record {
+    sketch = a.sketch ∙ ap (fold without_run old) all;
+    walks = a.walks ∙ ap (flat_map (λ (c : Chain). walks_along old c.steps)) all;
+    inner = a.inner ∙ ap (flat_map (λ (c : Chain). points_along old c.steps)) all;
+    moved = a.moved;
+    rest = a.rest;
+    light = a.light;
+    least = a.least;
+  }
+    where
+      all : take i runs ≡ runs
+      all = take_all i runs past
+
+  module _ (i : ℕ) (d : NodeId) (below : i < length nodes) (k : Sketch) (l : Lifted) (a : AreNodesLifted scale graph first old nodes runs i k l) where
+    abbrev n : NodeId
+    n = get_or nodes i d
+
+    at : (IsLegalSketch graph (fold lifted k1 (take i nodes))) × (is_standing (fold lifted k1 (take i nodes)) n.0 ≡ true)
+    at = lifted_at graph k1 nodes (all_liftable graph fit old h whole nodes runs g) i d below
+
+    pub node_legal : IsLegalSketch graph k
+    node_legal = subst (IsLegalSketch graph) (sym a.sketch) at.0
+
+    pub node_stands : is_standing k (get_or nodes i d).0 ≡ true
+    node_stands = ap (λ (j : Sketch). is_standing j n.0) a.sketch ∙ at.1
+
+    pub node_below : (get_or nodes i d).0 < length graph.kinds
+    node_below = stands_below graph k node_legal n.0 node_stands
+
+    pub node_near : is_near 2000 (point_of_node k (get_or nodes i d).0) ≡ true
+    node_near = stands_near graph k node_legal n.0 node_stands
+
+    same_point : point_of_node k n.0 ≡ point_of_node old n.0
+    same_point = ap (λ (j : Sketch). point_of_node j n.0) a.sketch ∙ ap (λ (ps : List GridPoint). get_or ps n.0 nowhere) (lift_points k1 (take i nodes) ∙ runs_points runs old)
+
+    pub node_less : sketch_weight scale graph first k ≡ sketch_weight scale graph first (lifted k (get_or nodes i d)) + apart_in scale first k (get_or nodes i d).0
+    node_less = node_weighs scale graph first k node_legal n node_stands
+
+    pub node_lifted : (new : Sketch) (m : Lifted) → new ≡ lifted k (get_or nodes i d) → m.walks.items ≡ l.walks.items → m.inner.items ≡ l.inner.items → m.moved.items ≡ l.moved.items ++ (get_or nodes i d, point_of_node k (get_or nodes i d).0) ∷ []
+        → m.rest + apart_in scale first k (get_or nodes i d).0 ≡ l.rest → m.least.items ≡ l.least.items → AreNodesLifted scale graph first old nodes runs (i + 1) new m
+    node_lifted new m is walks inner moved rest least = record {
+      sketch = is ∙ ap (λ (j : Sketch). lifted j n) a.sketch ∙ sym (fold_more lifted k1 nodes i d below);
+      walks = walks ∙ a.walks;
+      inner = inner ∙ a.inner;
+      moved =
+          moved
+          ∙ ap₂ (λ (xs : List (NodeId × GridPoint)) (p : GridPoint). xs ++ (n, p) ∷ []) a.moved same_point
+          ∙ sym (map_more (λ (m : NodeId). (m, point_of_node old m.0)) nodes i d below);
+      rest = let less = node_less in let there = ap (sketch_weight scale graph first) is in omega (arith, less, there, rest, a.rest);
+      light = omega (arith, rest, a.light);
+      least = least ∙ a.least;
+    }
+
+  -- ---- bounds
+
+  pub least_begin : (i : ℕ) (k : Sketch) (l : Lifted) → length nodes ≤ i → AreNodesLifted scale graph first old nodes runs i k l → AreLeastLifted scale graph first old nodes runs 0 k l
+  least_begin i k l past a = record {
+    sketch = a.sketch ∙ ap (fold lifted k1) all;
+    walks = a.walks;
+    inner = a.inner;
+    moved = a.moved ∙ ap (map (λ (n : NodeId). (n, point_of_node old n.0))) all;
+    rest = a.rest;
+    light = a.light;
+    each = ap length a.least;
+    least = tt;
+    small = subst (All IsSmallLeast) (sym a.least) (λ k d below. absurd (omega (arith, below)));
+  }
+    where
+      all : take i nodes ≡ nodes
+      all = take_all i nodes past
+
+  pub least_more : (i : ℕ) (d : Chain) (k : Sketch) (l m : Lifted) (x : LeastTurns) → i < length runs → AreLeastLifted scale graph first old nodes runs i k l → IsLeastOf scale graph k (get_or runs i d) x → IsSmallLeast x → m.walks.items ≡ l.walks.items → m.inner.items ≡ l.inner.items
+      → m.moved.items ≡ l.moved.items → m.rest ≡ l.rest → m.least.items ≡ l.least.items ++ x ∷ [] → AreLeastLifted scale graph first old nodes runs (i + 1) k m
+  least_more i d k l m x below a is small walks inner moved rest least = record {
+    sketch = a.sketch;
+    walks = walks ∙ a.walks;
+    inner = inner ∙ a.inner;
+    moved = moved ∙ a.moved;
+    rest = rest ∙ a.rest;
+    light = omega (arith, rest, a.light);
+    each = let one = length-append l.least.items (x ∷ []) in let more = ap length least in let front = ap length (take_more runs i d below) ∙ length-append (take i runs) (get_or runs i d ∷ []) in omega (arith, one, more, front, a.each);
+    least =
+        subst (λ (cs : List Chain). HaveLeast scale graph k cs m.least.items) (sym (take_more runs i d below))
+        (subst (HaveLeast scale graph k (take i runs ++ get_or runs i d ∷ [])) (sym least) (have_push scale graph k (take i runs) l.least.items (get_or runs i d) x a.each a.least is));
+    small = subst (All IsSmallLeast) (sym least) (All-push IsSmallLeast l.least.items x a.small small);
+  }
+
+  pub least_legal : (i : ℕ) (k : Sketch) (l : Lifted) → AreLeastLifted scale graph first old nodes runs i k l → IsLegalSketch graph k
+  least_legal i k l a = subst (IsLegalSketch graph) (sym a.sketch) (lift_legal graph k1 nodes (legal_then graph fit old h whole nodes runs g) (all_liftable graph fit old h whole nodes runs g))
+
+  -- so the group is off
+  pub group_lifted : (b : Group) (i : ℕ) (k : Sketch) (l : Lifted) → b.nodes ≡ nodes → b.runs ≡ runs → length runs ≤ i → AreLeastLifted scale graph first old nodes runs i k l → IsLifted scale graph first b old k l
+  group_lifted b i k l same_nodes same_runs past a = record {
+    off = subst (λ (j : Sketch). AreAlike j (taken_off graph old b.nodes b.runs)) (sym a.sketch) (subst (λ (ns : List NodeId). AreAlike k2 (taken_off graph old ns b.runs)) (sym same_nodes) (subst (λ (cs : List Chain). AreAlike k2 (taken_off graph old nodes cs)) (sym same_runs) (off_alike graph fit old h whole nodes runs g)));
+    moved = a.moved ∙ ap (map (λ (n : NodeId). (n, point_of_node old n.0))) (sym same_nodes);
+    can = λ j same. of_parts (λ (ms is : List (NodeId × GridPoint)) (ws : List (SegId × PlainWalk)). CanPutBack j ms is ws) (can_put_back graph fit old h whole nodes runs g j (subst (AreAlike j) a.sketch same));
+    back = λ j same. of_parts (λ (ms is : List (NodeId × GridPoint)) (ws : List (SegId × PlainWalk)). put_back j ms is ws ≡ old) (put_back_is graph fit old h whole nodes runs g j (subst (AreAlike j) a.sketch same));
+    rest = a.rest;
+    light = a.light;
+    each = a.each ∙ ap length (all ∙ sym same_runs);
+    least = subst (λ (cs : List Chain). HaveLeast scale graph k cs l.least.items) (all ∙ sym same_runs) a.least;
+    small = a.small;
+  }
+    where
+      k2 : Sketch
+      k2 = fold lifted (fold without_run old runs) nodes
+
+      all : take i runs ≡ runs
+      all = take_all i runs past
+
+      of_parts : (P : List (NodeId × GridPoint) → List (NodeId × GridPoint) → List (SegId × PlainWalk) → Type 0)
+          → P (map (λ (n : NodeId). (n, point_of_node old n.0)) nodes) (flat_map (λ (c : Chain). points_along old c.steps) runs) (flat_map (λ (c : Chain). walks_along old c.steps) runs) → P l.moved.items l.inner.items l.walks.items
+      of_parts P h =
+          subst (λ ms. P ms l.inner.items l.walks.items) (sym a.moved)
+          (subst (λ is. P (map (λ (n : NodeId). (n, point_of_node old n.0)) nodes) is l.walks.items) (sym a.inner)
+          (subst (λ ws. P (map (λ (n : NodeId). (n, point_of_node old n.0)) nodes) (flat_map (λ (c : Chain). points_along old c.steps) runs) ws) (sym a.walks) h))

@@ -1,0 +1,111 @@
+-- A search under way: passes over groups of attempts.
+use Rattle.std.proofs.Common.{◌≡◌, sym, ◌∙◌, ap, subst, ℕ, ◌+◌, ◌<◌, ◌≤◌, List, length, drop, min, get_or, arith}
+use Rattle.std.proofs.lemmas.List.{drop_all, drop_more}
+use Rattle.std.proofs.lemmas.List.Sums.{fold-append}
+use Rattle.graph_core.specs.declared.parts.GraphParts.{GraphParts}
+use Rattle.graph_core.specs.Consistent.{IsConsistent}
+use Rattle.octi_grid.specs.declared.point.GridPoint.{GridPoint}
+use Rattle.octi_grid.specs.Walks.{PlainWalk}
+use Rattle.octi_grid.proofs.Members.{In}
+use Rattle.drawing_weights.specs.Drawn.{points_all}
+use Rattle.drawing_weights.specs.Scales.{weight_by, Scale}
+use Rattle.grid_board.specs.declared.bounds.Bounds.{Bounds}
+use Rattle.run_laying.specs.Attempts.{improving, Attempt}
+use Rattle.run_laying.specs.Laying.{Sketch}
+use Rattle.run_laying.specs.Runs.{IsFitting}
+use Rattle.run_laying.specs.Searches.{after_pass, after_passes, Found}
+use Rattle.drawing_search.specs.declared.group.Group.{Group}
+use Rattle.drawing_search.specs.Gains.{sketch_weight}
+use Rattle.drawing_search.specs.Searched.{attempts_in, attempts_of}
+use Rattle.drawing_search.specs.Tries.{after_tries, after_try, IsSettled, Tried}
+use Rattle.drawing_search.specs.Trying.{walks_of}
+use Rattle.drawing_search.proofs.OnWalks.{found_of, tries_there, IsGood, IsThere}
+use Rattle.drawing_search.proofs.Passes.{pass_none, pass_some, passes_full, IsEnough}
+use Rattle.drawing_search.proofs.TriedGroups.{tries_after, IsAfter}
+
+-- the attempts of groups, one group after another
+pub tries_more : (scale : Scale) (graph : GraphParts) (first : List GridPoint) (most : ℕ) (groups : List Group) (i : ℕ) (d : Group) (f : Tried) → i < length groups
+    → after_tries scale graph first most (attempts_of (drop i groups)) f ≡ after_tries scale graph first most (attempts_of (drop (i + 1) groups)) (after_tries scale graph first most (attempts_in (get_or groups i d)) f)
+tries_more scale graph first most groups i d f below =
+    ap (λ (gs : List Group). after_tries scale graph first most (attempts_of gs) f) (drop_more groups i d below)
+    ∙ fold-append (after_try scale graph first most) f (attempts_in (get_or groups i d)) (attempts_of (drop (i + 1) groups))
+
+-- a pass under way: the groups that are left come to what all of them come to
+pub record IsPassing (scale : Scale) (graph : GraphParts) (first : List GridPoint) (limit : ℕ) (groups : List Group) (start : Tried) (i : ℕ) (k : Sketch) (weight made : ℕ) : Type 0 where
+  pub settled : IsSettled scale graph first k weight
+  pub rest : after_tries scale graph first limit (attempts_of (drop i groups)) (record { sketch = k; made = made }) ≡ after_tries scale graph first limit (attempts_of groups) start
+  pub few : made ≤ limit
+
+pub pass_over : (scale : Scale) (graph : GraphParts) (first : List GridPoint) (limit : ℕ) (groups : List Group) (start : Tried) (i : ℕ) (k : Sketch) (weight made : ℕ) → length groups ≤ i → IsPassing scale graph first limit groups start i k weight made
+    → (let f : Tried = record { sketch = k; made = made } in f) ≡ after_tries scale graph first limit (attempts_of groups) start
+pass_over scale graph first limit groups start i k weight made past p = ap (λ (gs : List Group). after_tries scale graph first limit (attempts_of gs) (let f : Tried = record { sketch = k; made = made } in f)) (sym (drop_all i groups past)) ∙ p.rest
+
+-- between passes: those that are left come to what all of them come to
+pub record IsBetweenPasses (scale : Scale) (graph : GraphParts) (first : List PlainWalk) (bounds : Bounds) (groups : List Group) (at_once most before : ℕ) (k : Sketch) (weight made : ℕ) : Type 0 where
+  pub settled : IsSettled scale graph (points_all graph first) k weight
+  pub good : IsGood graph bounds k
+  pub passes : ℕ
+  pub enough : IsEnough (improving graph bounds (weight_by scale graph first)) (attempts_of groups) at_once most passes (record { walks = walks_of k; made = made })
+      (after_passes (improving graph bounds (weight_by scale graph first)) (attempts_of groups) at_once most most (record { walks = first; made = 0 }))
+  pub few : made ≤ most
+  pub no_heavier : weight ≤ before
+
+module _ (scale : Scale) (graph : GraphParts) (fit : IsConsistent graph) (first : List PlainWalk) (bounds : Bounds) (groups : List Group) (at_once most before : ℕ) (fits : (a : Attempt) → In a (attempts_of groups) → IsFitting graph a) where
+  abbrev result : Found
+  result = after_passes (improving graph bounds (weight_by scale graph first)) (attempts_of groups) at_once most most (record { walks = first; made = 0 })
+
+  module _ (k : Sketch) (weight made : ℕ) (b : IsBetweenPasses scale graph first bounds groups at_once most before k weight made) where
+    abbrev now : Tried
+    now = record { sketch = k; made = made }
+
+    -- all attempts were made
+    pub passes_end : most ≤ made → (let f : Found = record { walks = walks_of k; made = made } in f) ≡ result
+    passes_end full = passes_full (improving graph bounds (weight_by scale graph first)) (attempts_of groups) at_once most b.passes (found_of graph fit scale first bounds now) result full b.enough
+
+    module _ (room : made < most) (new : Sketch) (less more : ℕ) (settled : IsSettled scale graph (points_all graph first) new less)
+        (is : (let f : Tried = record { sketch = new; made = more } in f) ≡ after_tries scale graph (points_all graph first) (min most (made + at_once)) (attempts_of groups) (record { sketch = k; made = made })) where
+      abbrev come_to : Tried
+      come_to = record { sketch = new; made = more }
+
+      after : IsAfter scale graph (points_all graph first) (min most (made + at_once)) now (after_tries scale graph (points_all graph first) (min most (made + at_once)) (attempts_of groups) now)
+      after = tries_after scale graph (points_all graph first) (min most (made + at_once)) (attempts_of groups) now (omega (arith, room))
+
+      there : IsThere graph fit scale first bounds (after_tries scale graph (points_all graph first) (min most (made + at_once)) (attempts_of groups) now)
+          (after_pass (improving graph bounds (weight_by scale graph first)) (attempts_of groups) (min most (made + at_once)) (found_of graph fit scale first bounds now))
+      there = tries_there graph fit scale first bounds (min most (made + at_once)) (attempts_of groups) now b.good fits
+
+      found : found_of graph fit scale first bounds come_to ≡ after_pass (improving graph bounds (weight_by scale graph first)) (attempts_of groups) (min most (made + at_once)) (found_of graph fit scale first bounds now)
+      found = ap (found_of graph fit scale first bounds) is ∙ there.is
+
+      -- a pass made nothing
+      pub passes_stop : more ≡ made → (let f : Found = record { walks = walks_of new; made = more } in f) ≡ result
+      passes_stop same =
+          ap (found_of graph fit scale first bounds) (is ∙ after.same (ap (λ (f : Tried). f.made) (sym is) ∙ same))
+          ∙ pass_none (improving graph bounds (weight_by scale graph first)) (attempts_of groups) at_once most b.passes (found_of graph fit scale first bounds now) result room b.enough (ap (λ (f : Found). f.made) (sym found) ∙ same)
+
+      lighter : less ≤ weight
+      lighter = let down = after.lighter in let one = ap (λ (f : Tried). sketch_weight scale graph (points_all graph first) f.sketch) is in omega (arith, down, one, settled.weight_is, b.settled.weight_is)
+
+      pub good_then : IsGood graph bounds new
+      good_then = subst (λ (f : Tried). IsGood graph bounds f.sketch) (sym is) there.good
+
+      -- or it goes on
+      pub rises : (more ≡ made → ⊥) → made < more
+      rises other = let up = after.more in let count = ap (λ (f : Tried). f.made) is in omega (arith, other, up, count)
+
+      pub passes_more : (more ≡ made → ⊥) → IsBetweenPasses scale graph first bounds groups at_once most before new less more
+      passes_more other =
+          let count = ap (λ (f : Tried). f.made) is in
+          let up = rises other in
+          let next = pass_some (improving graph bounds (weight_by scale graph first)) (attempts_of groups) at_once most b.passes (found_of graph fit scale first bounds now) result room b.enough (let same = ap (λ (f : Found). f.made) found in omega (arith, up, same)) in
+          record {
+            settled = settled;
+            good = good_then;
+            passes = next.0;
+            enough = subst (λ (f : Found). IsEnough (improving graph bounds (weight_by scale graph first)) (attempts_of groups) at_once most next.0 f result) (sym found) next.1;
+            few = omega (arith, after.few, count);
+            no_heavier = omega (arith, lighter, b.no_heavier);
+          }
+
+      pub no_heavier_then : less ≤ before
+      no_heavier_then = omega (arith, lighter, b.no_heavier)

@@ -1,0 +1,129 @@
+-- Runs that stand may be taken off the board: first their walks, then the nodes between their ends.
+use Rattle.std.proofs.Common.{◌≡◌, refl, sym, ◌∙◌, ap, subst, ℕ, zero, suc, ◌<◌, ◌≤◌, true, false, List, [], ◌∷◌, length, get_or, set, Contains, Option, Some, None, ◌⊎◌, inl, inr, arith, get_or-set_other}
+use Rattle.std.proofs.lemmas.Bool.{cases_eq, cases_lt}
+use Rattle.std.proofs.lemmas.List.{get_or_past}
+use Rattle.map_base.specs.declared.ids.NodeId.{NodeId}
+use Rattle.map_base.specs.declared.ids.SegId.{SegId}
+use Rattle.graph_core.specs.declared.parts.GraphParts.{GraphParts}
+use Rattle.graph_core.specs.Consistent.{IsConsistent}
+use Rattle.line_chains.specs.declared.chain.Chain.{Chain}
+use Rattle.line_chains.specs.declared.chain.ChainStep.{ChainStep}
+use Rattle.octi_grid.specs.Walks.{PlainWalk}
+use Rattle.octi_grid.proofs.Members.{In}
+use Rattle.run_laying.specs.Attempts.{inner_nodes}
+use Rattle.run_laying.specs.Laying.{Sketch}
+use Rattle.run_laying.specs.Runs.{AreOnce, AreSteps, IsRun}
+use Rattle.run_laying.specs.Sketches.{is_standing, lifted, walk_in, with_walk_of, IsEndOf, IsLegalSketch}
+use Rattle.run_laying.proofs.RunFacts.{contains_in, inner_of, inner_off, leads_to, once_first, IsOff}
+use Rattle.drawing_search.specs.Changes.{without_walks, AreApart, AreLiftable, IsTakable}
+use Rattle.drawing_search.proofs.TakenOff.{lifted_legal, off_legal}
+
+-- what is at a place of a list is in it
+pub in_from : {X : Type 0} (xs : List X) (x : X) → Contains xs x → In x xs
+in_from [] x c = absurd (omega (arith, c.1))
+in_from (y ∷ ys) x (zero, h, e) = inl (sym e)
+in_from (y ∷ ys) x (suc i, h, e) = inr (in_from ys x (i, omega (arith, h), e))
+
+-- ---- nodes
+
+-- no walk ends at a node
+abbrev pub IsBare : GraphParts → Sketch → NodeId → Type 0
+IsBare graph k n = (t : SegId) → (v : PlainWalk) → walk_in k t ≡ Some v → IsEndOf graph t n.0 → ⊥
+
+pub liftable_each : (graph : GraphParts) (k : Sketch) → IsLegalSketch graph k → (ns : List NodeId) → ((n : NodeId) → In n ns → is_standing k n.0 ≡ true) → ((n : NodeId) → In n ns → IsBare graph k n) → AreApart ns
+    → AreLiftable graph k ns
+liftable_each graph k h [] stands bare apart = tt
+liftable_each graph k h (n ∷ ns) stands bare apart = (
+  record { legal = h; stands = stands n (inl refl); bare = bare n (inl refl) },
+  liftable_each graph (lifted k n) (lifted_legal graph k h n (bare n (inl refl))) ns (λ m i. get_or-set_other k.stand n.0 m.0 false false (apart.0 m (contains_in ns m i)) ∙ stands m (inr i))
+      (λ m i t v e is_end. bare m (inr i) t v e is_end) apart.1,
+)
+
+-- the nodes between the ends of a run are different ones
+pub inner_apart : (graph : GraphParts) → IsConsistent graph → (n : NodeId) (ts : List ChainStep) → AreSteps graph n ts → AreOnce ts → AreApart (inner_nodes ts)
+inner_apart graph fit n [] steps once = tt
+inner_apart graph fit n (t ∷ []) steps once = tt
+inner_apart graph fit n (t ∷ u ∷ us) steps once = (other, inner_apart graph fit t.to (u ∷ us) steps.3 once.1)
+  where
+    other : (m : NodeId) → Contains (inner_nodes (u ∷ us)) m → m.0 ≡ t.to.0 → ⊥
+    other m there same =
+        let i = in_from (inner_nodes (u ∷ us)) m there in
+        inner_off graph fit (u ∷ us) m (inner_of graph fit t.to (u ∷ us) steps.3 m i) t.seg steps.0 (once_first t (u ∷ us) once) (subst (IsEndOf graph t.seg) (sym same) (leads_to graph n t steps.1))
+
+-- ---- walks
+
+pub legal_without : (graph : GraphParts) → IsConsistent graph → (k : Sketch) → IsLegalSketch graph k → (ts : List ChainStep) → IsLegalSketch graph (without_walks k ts)
+legal_without graph fit k h [] = h
+legal_without graph fit k h (t ∷ ts) = legal_without graph fit (with_walk_of k t.seg None) (off_legal graph fit k h t.seg) ts
+
+pub same_stand : (k : Sketch) (ts : List ChainStep) → (without_walks k ts).stand ≡ k.stand
+same_stand k [] = refl
+same_stand k (t ∷ ts) = same_stand (with_walk_of k t.seg None) ts
+
+gone : (ws : List (Option PlainWalk)) (i j : ℕ) → get_or ws j None ≡ None → get_or (set ws i None) j None ≡ None
+gone [] i j e = e
+gone (o ∷ ws) zero zero e = refl
+gone (o ∷ ws) zero (suc j) e = e
+gone (o ∷ ws) (suc i) zero e = e
+gone (o ∷ ws) (suc i) (suc j) e = gone ws i j e
+
+gone_here : (ws : List (Option PlainWalk)) (i : ℕ) → get_or (set ws i None) i None ≡ None
+gone_here [] i = refl
+gone_here (o ∷ ws) zero = refl
+gone_here (o ∷ ws) (suc i) = gone_here ws i
+
+pub still_none : (k : Sketch) (ts : List ChainStep) (s : SegId) → walk_in k s ≡ None → walk_in (without_walks k ts) s ≡ None
+still_none k [] s e = e
+still_none k (t ∷ ts) s e = still_none (with_walk_of k t.seg None) ts s (gone k.walks t.seg.0 s.0 e)
+
+pub none_left : (k : Sketch) (ts : List ChainStep) (q : ChainStep) → In q ts → walk_in (without_walks k ts) q.seg ≡ None
+none_left k [] q m = absurd m
+none_left k (t ∷ ts) q (inl e) = still_none (with_walk_of k t.seg None) ts q.seg (subst (λ (p : ChainStep). walk_in (with_walk_of k t.seg None) p.seg ≡ None) (sym e) (gone_here k.walks t.seg.0))
+none_left k (t ∷ ts) q (inr m) = none_left (with_walk_of k t.seg None) ts q m
+
+pub same_walks_off : (k : Sketch) (ts : List ChainStep) (s : SegId) → IsOff ts s → walk_in (without_walks k ts) s ≡ walk_in k s
+same_walks_off k [] s off = refl
+same_walks_off k (t ∷ ts) s off =
+    same_walks_off (with_walk_of k t.seg None) ts s (λ q m e. off q (inr m) e) ∙ get_or-set_other k.walks t.seg.0 s.0 None None (λ e. off t (inl refl) (sym e))
+
+-- ---- runs
+
+-- a segment is on steps, or not
+pub on_or_off : (ts : List ChainStep) (s : SegId) → ((q : ChainStep) × In q ts × (q.seg.0 ≡ s.0)) ⊎ IsOff ts s
+on_or_off [] s = inr (λ q m e. m)
+on_or_off (t ∷ ts) s = by_first (cases_eq t.seg.0 s.0) (on_or_off ts s)
+  where
+    by_first : (t.seg.0 ≡ s.0) ⊎ (t.seg.0 ≡ s.0 → ⊥) → ((q : ChainStep) × In q ts × (q.seg.0 ≡ s.0)) ⊎ IsOff ts s → ((q : ChainStep) × In q (t ∷ ts) × (q.seg.0 ≡ s.0)) ⊎ IsOff (t ∷ ts) s
+    by_first (inl e) rest = inl (t, inl refl, e)
+    by_first (inr f) (inl (q, m, e)) = inl (q, inr m, e)
+    by_first (inr f) (inr off) = inr both
+      where
+        both : IsOff (t ∷ ts) s
+        both q (inl e) same = f (ap (λ (p : ChainStep). p.seg.0) (sym e) ∙ same)
+        both q (inr m) same = off q m same
+
+pub walk_below : (graph : GraphParts) (k : Sketch) → IsLegalSketch graph k → (s : SegId) (v : PlainWalk) → walk_in k s ≡ Some v → s.0 < length graph.ends
+walk_below graph k h s v e = by_order (cases_lt s.0 (length graph.ends))
+  where
+    by_order : (s.0 < length graph.ends) ⊎ (length graph.ends ≤ s.0) → s.0 < length graph.ends
+    by_order (inl less) = less
+    by_order (inr past) = let none : None ≡ Some v = sym (get_or_past k.walks s.0 None (omega (arith, past, h.walks_each))) ∙ e in cc
+
+pub run_takable : (graph : GraphParts) → IsConsistent graph → (k : Sketch) (c : Chain) → IsLegalSketch graph k → IsRun graph c → ((m : NodeId) → In m (inner_nodes c.steps) → is_standing k m.0 ≡ true) → IsTakable graph k c
+run_takable graph fit k c h run stands = record {
+  legal = h;
+  run = run;
+  inner =
+      liftable_each graph (without_walks k c.steps) legal (inner_nodes c.steps) (λ m i. ap (λ fs. get_or fs m.0 false) (same_stand k c.steps) ∙ stands m i) bare
+      (inner_apart graph fit c.from c.steps run.steps run.once);
+}
+  where
+    legal : IsLegalSketch graph (without_walks k c.steps)
+    legal = legal_without graph fit k h c.steps
+
+    bare : (m : NodeId) → In m (inner_nodes c.steps) → IsBare graph (without_walks k c.steps) m
+    bare m i t v e is_end = by_run (on_or_off c.steps t)
+      where
+        by_run : ((q : ChainStep) × In q c.steps × (q.seg.0 ≡ t.0)) ⊎ IsOff c.steps t → ⊥
+        by_run (inl (q, on, same)) = let none : None ≡ Some v = sym (none_left k c.steps q on) ∙ ap (λ j. get_or (without_walks k c.steps).walks j None) same ∙ e in cc
+        by_run (inr off) = inner_off graph fit c.steps m (inner_of graph fit c.from c.steps run.steps m i) t (walk_below graph (without_walks k c.steps) legal t v e) off is_end

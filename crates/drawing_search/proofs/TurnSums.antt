@@ -1,0 +1,141 @@
+-- What steps cost and turn, joined and walked back.
+use Rattle.std.proofs.Common.{◌≡◌, refl, sym, ◌∙◌, ap, ℕ, ◌+◌, ◌-◌, ◌%◌, ◌≤◌, List, [], ◌∷◌, ◌++◌, map, reverse, min, Option, Some, None, slice_get, arith}
+use Rattle.std.proofs.lemmas.List.{map-append, reverse-append}
+use Rattle.octi_grid.specs.declared.dir.Dir.{Dir}
+use Rattle.octi_grid.specs.declared.dir.Dir.TheVariants as dir
+use Rattle.octi_grid.specs.Costs.{clockwise_from, step_cost, turn_between, way_cost}
+use Rattle.octi_grid.specs.Walks.{last_of}
+use Rattle.octi_grid.specs.Ways.{number_of, reverse_of}
+use Rattle.octi_grid.proofs.CostLemmas.{number_small}
+use Rattle.drawing_weights.specs.Weights.{turns_of}
+use Rattle.run_laying.proofs.Reversed.{turned}
+
+-- the steps alone, without turns
+abbrev pub steps_cost : List Dir → ℕ
+steps_cost [] = 0
+steps_cost (d ∷ ds) = step_cost d + steps_cost ds
+
+pub cost_parts : (ds : List Dir) → way_cost ds ≡ steps_cost ds + turns_of ds
+cost_parts [] = refl
+cost_parts (d ∷ []) = omega arith
+cost_parts (d ∷ e ∷ ds) = let rest = cost_parts (e ∷ ds) in omega (arith, rest)
+
+-- ---- one way after another
+
+pub steps_append : (ds es : List Dir) → steps_cost (ds ++ es) ≡ steps_cost ds + steps_cost es
+steps_append [] es = omega arith
+steps_append (d ∷ ds) es = let rest = steps_append ds es in omega (arith, rest)
+
+-- the turn from the last of directions into the first of others
+abbrev pub turn_over_cut : Option Dir → Option Dir → ℕ
+turn_over_cut None q = 0
+turn_over_cut (Some d) None = 0
+turn_over_cut (Some d) (Some e) = turn_between d e
+
+pub turns_append : (ds es : List Dir) → turns_of (ds ++ es) ≡ turns_of ds + turn_over_cut (last_of ds) (slice_get es 0) + turns_of es
+turns_append [] es = omega arith
+turns_append (d ∷ []) [] = refl
+turns_append (d ∷ []) (e ∷ es) = omega arith
+turns_append (d ∷ f ∷ ds) es = let rest = turns_append (f ∷ ds) es in omega (arith, rest)
+
+-- ---- and walked back
+
+step_back_cost : (d : Dir) → step_cost (reverse_of d) ≡ step_cost d
+step_back_cost dir.N = refl
+step_back_cost dir.NE = refl
+step_back_cost dir.E = refl
+step_back_cost dir.SE = refl
+step_back_cost dir.S = refl
+step_back_cost dir.SW = refl
+step_back_cost dir.W = refl
+step_back_cost dir.NW = refl
+
+reverse_number : (d : Dir) → number_of (reverse_of d) ≡ (number_of d + 4) % 8
+reverse_number dir.N = refl
+reverse_number dir.NE = refl
+reverse_number dir.E = refl
+reverse_number dir.SE = refl
+reverse_number dir.S = refl
+reverse_number dir.SW = refl
+reverse_number dir.W = refl
+reverse_number dir.NW = refl
+
+angle_back : (a b : ℕ) → a ≤ 7 → b ≤ 7 → ((b + 4) % 8 + 8 - (a + 4) % 8) % 8 ≡ (b + 8 - a) % 8
+angle_back a b h k = omega arith
+
+clockwise_back : (d e : Dir) → clockwise_from (reverse_of d) (reverse_of e) ≡ clockwise_from d e
+clockwise_back d e =
+    ap (λ n. (n + 8 - number_of (reverse_of d)) % 8) (reverse_number e)
+    ∙ ap (λ n. ((number_of e + 4) % 8 + 8 - n) % 8) (reverse_number d)
+    ∙ angle_back (number_of d) (number_of e) (number_small d) (number_small e)
+
+min_turned : (a b : ℕ) → min a b ≡ min b a
+min_turned a b = omega arith
+
+pub turn_same_back : (d e : Dir) → turn_between (reverse_of d) (reverse_of e) ≡ turn_between d e
+turn_same_back d e = ap (λ n. min n (clockwise_from (reverse_of e) (reverse_of d))) (clockwise_back d e) ∙ ap (λ n. min (clockwise_from d e) n) (clockwise_back e d)
+
+pub turn_turned : (d e : Dir) → turn_between d e ≡ turn_between e d
+turn_turned d e = min_turned (clockwise_from d e) (clockwise_from e d)
+
+turned_cons : (d : Dir) (ds : List Dir) → turned (d ∷ ds) ≡ turned ds ++ reverse_of d ∷ []
+turned_cons d ds = ap (map reverse_of) (reverse-append (d ∷ []) ds) ∙ map-append reverse_of (reverse ds) (d ∷ [])
+
+pub steps_back : (ds : List Dir) → steps_cost (turned ds) ≡ steps_cost ds
+steps_back [] = refl
+steps_back (d ∷ ds) =
+    let rest = steps_back ds in
+    let joined = ap steps_cost (turned_cons d ds) ∙ steps_append (turned ds) (reverse_of d ∷ []) in
+    omega (arith, rest, joined, step_back_cost d)
+
+last_push : (ds : List Dir) (e : Dir) → last_of (ds ++ e ∷ []) ≡ Some e
+last_push [] e = refl
+last_push (d ∷ []) e = refl
+last_push (d ∷ f ∷ ds) e = last_push (f ∷ ds) e
+
+pub turns_back : (ds : List Dir) → turns_of (turned ds) ≡ turns_of ds
+turns_back [] = refl
+turns_back (d ∷ []) = refl
+turns_back (d ∷ e ∷ ds) =
+    let rest = turns_back (e ∷ ds) in
+    let joined = ap turns_of (turned_cons d (e ∷ ds)) ∙ turns_append (turned (e ∷ ds)) (reverse_of d ∷ []) in
+    let last : turn_over_cut (last_of (turned (e ∷ ds))) (Some (reverse_of d)) ≡ turn_between (reverse_of e) (reverse_of d) =
+    ap (λ (v : List Dir). turn_over_cut (last_of v) (Some (reverse_of d))) (turned_cons e ds) ∙ ap (λ (o : Option Dir). turn_over_cut o (Some (reverse_of d))) (last_push (turned ds) (reverse_of e)) in
+    omega (arith, rest, joined, last, turn_same_back e d, turn_turned d e)
+
+-- ---- a way that turns less than from its first direction to its last one there is none
+
+-- the turn from one direction over another is no less than the turn straight on: the one way round, or the other
+on_round : (x y z : ℕ) → x ≤ 7 → y ≤ 7 → z ≤ 7 → (z + 8 - x) % 8 ≤ (y + 8 - x) % 8 + (z + 8 - y) % 8
+on_round x y z h k l = omega arith
+
+back_and_on : (x y z : ℕ) → x ≤ 7 → y ≤ 7 → z ≤ 7 → min ((z + 8 - x) % 8) ((x + 8 - z) % 8) ≤ (x + 8 - y) % 8 + (z + 8 - y) % 8
+back_and_on x y z h k l = omega arith
+
+on_and_back : (x y z : ℕ) → x ≤ 7 → y ≤ 7 → z ≤ 7 → min ((z + 8 - x) % 8) ((x + 8 - z) % 8) ≤ (y + 8 - x) % 8 + (y + 8 - z) % 8
+on_and_back x y z h k l = omega arith
+
+least_of_four : (m n a b c d : ℕ) → m ≤ a + c → n ≤ d + b → min m n ≤ b + c → min m n ≤ a + d → min m n ≤ min a b + min c d
+least_of_four m n a b c d one two three four = omega (arith, one, two, three, four)
+
+pub turn_shorter : (a b c : Dir) → turn_between a c ≤ turn_between a b + turn_between b c
+turn_shorter a b c =
+    let x = number_small a in
+    let y = number_small b in
+    let z = number_small c in
+    least_of_four (clockwise_from a c) (clockwise_from c a) (clockwise_from a b) (clockwise_from b a) (clockwise_from b c) (clockwise_from c b) (on_round (number_of a) (number_of b) (number_of c) x y z)
+    (on_round (number_of c) (number_of b) (number_of a) z y x) (back_and_on (number_of a) (number_of b) (number_of c) x y z) (on_and_back (number_of a) (number_of b) (number_of c) x y z)
+
+turn_itself : (d : Dir) → turn_between d d ≡ 0
+turn_itself dir.N = refl
+turn_itself dir.NE = refl
+turn_itself dir.E = refl
+turn_itself dir.SE = refl
+turn_itself dir.S = refl
+turn_itself dir.SW = refl
+turn_itself dir.W = refl
+turn_itself dir.NW = refl
+
+pub turns_enough : (d : Dir) (ds : List Dir) (e : Dir) → last_of (d ∷ ds) ≡ Some e → turn_between d e ≤ turns_of (d ∷ ds)
+turns_enough d [] e last = let same : d ≡ e = cc in omega (arith, ap (turn_between d) (sym same), turn_itself d)
+turns_enough d (f ∷ ds) e last = omega (arith, turn_shorter d f e, turns_enough f ds e last)

@@ -1,0 +1,9 @@
+use Rattle.std.proofs.Common.{◌≡◌, true, sym, subst}
+use Rattle.octi_grid.specs.declared.point.GridPoint.{GridPoint}
+use Rattle.grid_board.specs.Points.{is_near}
+use Rattle.drawing_search.proofs.Nearby.{stands_near}
+use Rattle.drawing_search.proofs.gains.Field.step_gain.Goals as goal
+
+pub apart_weight-requires-clause-near : goal.apart_weight-requires-clause-near
+apart_weight-requires-clause-near c =
+    subst (λ (p : GridPoint). is_near 2000 p ≡ true) (sym c.point.ensures) (stands_near c.args.self.graph.now c.args.sketch.now c.requires.legal c.args.step.to.0 (c.requires.inner c.if-not-is_inner.false))

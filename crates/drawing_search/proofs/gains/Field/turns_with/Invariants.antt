@@ -1,0 +1,12 @@
+use Rattle.std.proofs.Common.{◌≡◌, ◌*◌, ◌≤◌, length, take}
+use Rattle.std.specs.List.{sum_by}
+use Rattle.drawing_search.specs.Gains.{turn_if}
+use Rattle.drawing_search.proofs.gains.Field.turns_with.Given as goal
+
+-- the turns so far, each of them of 180 degrees at most
+abbrev pub invariant-loop-pair : goal.invariant-loop-pair
+invariant-loop-pair l = record {
+  weight : l.total ≡ sum_by (turn_if l.self.graph.now l.sketch l.n.0 l.s) (take l.pair-index l.pair-items);
+  small : l.total ≤ 4 * l.pair-index;
+  within : l.pair-index ≤ length l.pair-items;
+}

@@ -1,0 +1,124 @@
+use Rattle.std.proofs.Common.{◌≡◌, ℕ, ◌+◌, ◌<◌, List, [], ◌∷◌, ◌++◌, pos, length, map, fold, get_or, drop, append_assoc, append-nil, Option, Some, None, option_map, sym, ap, ap₂, subst, ◌∙◌}
+use Rattle.std.proofs.lemmas.List.{at_drop_all, at_drop_more}
+use Rattle.std.specs.List.{cons_option}
+use Rattle.std.specs.Prelude.{OnOk}
+use Rattle.map_base.specs.declared.ids.NodeId.{NodeId}
+use Rattle.map_base.specs.declared.ids.SegId.{SegId}
+use Rattle.graph_core.specs.declared.parts.GraphParts.{GraphParts}
+use Rattle.line_chains.specs.declared.chain.Chain.{Chain}
+use Rattle.line_chains.specs.declared.chain.ChainStep.{ChainStep}
+use Rattle.octi_grid.specs.declared.point.GridPoint.{GridPoint}
+use Rattle.octi_grid.specs.Walks.{PlainWalk}
+use Rattle.segment_router.proofs.Places.{in_at}
+use Rattle.run_laying.specs.Attempts.{inner_nodes}
+use Rattle.run_laying.specs.Laying.{Sketch}
+use Rattle.run_laying.specs.Runs.{AreOnce, IsRun}
+use Rattle.run_laying.specs.Sketches.{lifted as lifted_off, walk_in, with_walk_of, IsLegalSketch}
+use Rattle.run_laying.proofs.RunFacts.{step_of}
+use Rattle.drawing_search.specs.declared.least.LeastTurns.{LeastTurns}
+use Rattle.drawing_search.specs.Changes.{without_walks, AreLiftable}
+use Rattle.drawing_search.specs.Lifting.{points_along, walks_along}
+use Rattle.drawing_search.proofs.TakenOff.{off_legal}
+use Rattle.drawing_search.proofs.WalksOff.{once_rest, walks_off}
+use Rattle.drawing_search.proofs.lifting.lift_run.Goals as goal
+
+abbrev none : ChainStep
+none = record { seg = record { 0 = 0 }; to = record { 0 = 0 } }
+
+segment_at : (graph : GraphParts) (c : Chain) → IsRun graph c → (ts : List ChainStep) → ts ≡ c.steps → (i : ℕ) → i < length ts → (get_or ts i none).seg.0 < length graph.ends
+segment_at graph c run ts same i h =
+    subst (λ (v : List ChainStep). (get_or v i none).seg.0 < length graph.ends) (sym same)
+    (step_of graph c.from c.steps run.steps (get_or c.steps i none) (in_at c.steps i none (subst (λ (v : List ChainStep). i < length v) same h))).segment
+
+-- what the next step has is listed, and it loses its walk
+one_walk : (k new : Sketch) (ts : List ChainStep) (i : ℕ) (o : Option PlainWalk) (before walks : List (SegId × PlainWalk)) → AreOnce ts → i < length ts → o ≡ walk_in k (get_or ts i none).seg → new ≡ with_walk_of k (get_or ts i none).seg None
+    → walks ≡ before ++ cons_option (option_map (λ (w : PlainWalk). ((get_or ts i none).seg, w)) o) [] → walks ++ walks_along new (drop (i + 1) ts) ≡ before ++ walks_along k (drop i ts)
+one_walk k new ts i o before walks once h came is listed =
+    ap₂ (λ (v : List (SegId × PlainWalk)) (j : Sketch). v ++ walks_along j (drop (i + 1) ts)) listed is
+    ∙ ap₂ (λ (p : Option PlainWalk) (v : List (SegId × PlainWalk)). (before ++ cons_option (option_map (λ (w : PlainWalk). ((get_or ts i none).seg, w)) p) []) ++ v) came (walks_off k (get_or ts i none).seg (drop (i + 1) ts) (once_rest ts i none once h))
+    ∙ joined before (option_map (λ (w : PlainWalk). ((get_or ts i none).seg, w)) (walk_in k (get_or ts i none).seg)) (walks_along k (drop (i + 1) ts))
+    ∙ ap (λ (v : List (SegId × PlainWalk)). before ++ v) (sym (at_drop_more (walks_along k) ts i none h))
+  where
+    joined : (xs : List (SegId × PlainWalk)) (m : Option (SegId × PlainWalk)) (ys : List (SegId × PlainWalk)) → (xs ++ cons_option m []) ++ ys ≡ xs ++ cons_option m ys
+    joined xs None ys = ap (λ (v : List (SegId × PlainWalk)). v ++ ys) (append-nil xs)
+    joined xs (Some x) ys = append_assoc xs (x ∷ []) ys
+
+pub take_walk-requires-clause-segment : goal.take_walk-requires-clause-segment
+take_walk-requires-clause-segment c = segment_at c.args.field.graph.now c.args.run.now c.requires.takable.run c.as_slice-steps.result.now c.as_slice-steps.ensures c.loop-step.step-index c.loop-step-test.true
+
+pub loop-step-preserved-in-Continue-1 : goal.loop-step-preserved-in-Continue-1
+loop-step-preserved-in-Continue-1 c =
+    let ts = c.as_slice-steps.result.now in
+    let i = c.loop-step.step-index in
+    let k = c.loop-step.sketch in
+    let once : AreOnce ts = subst AreOnce (sym c.as_slice-steps.ensures) c.requires.takable.run.once in
+    record {
+      rest = ap (λ (j : Sketch). without_walks j (drop (i + 1) ts)) c.take_walk.ensures.rest ∙ sym (at_drop_more (without_walks k) ts i none c.loop-step-test.true) ∙ c.loop-step.invariant.rest;
+      legal = subst (IsLegalSketch c.args.field.graph.now) (sym c.take_walk.ensures.rest) (off_legal c.args.field.graph.now c.requires.field.graph k c.loop-step.invariant.legal (get_or ts i none).seg);
+      walks = one_walk k c.take_walk.new.self ts i (Some c.in-Some.walk) c.loop-step.lifted.walks.items _ once c.loop-step-test.true (sym c.in-Some.is ∙ c.take_walk.ensures.walk) c.take_walk.ensures.rest c.in_ok-push.ensures.items
+          ∙ c.loop-step.invariant.walks;
+      points = ap (λ (j : Sketch). j.points) c.take_walk.ensures.rest ∙ c.loop-step.invariant.points;
+      inner = c.loop-step.invariant.inner;
+      moved = c.loop-step.invariant.moved;
+      weight = c.loop-step.invariant.weight;
+      least = c.loop-step.invariant.least;
+    }
+
+pub loop-step-preserved : goal.loop-step-preserved
+loop-step-preserved c =
+    let ts = c.as_slice-steps.result.now in
+    let i = c.loop-step.step-index in
+    let k = c.loop-step.sketch in
+    let once : AreOnce ts = subst AreOnce (sym c.as_slice-steps.ensures) c.requires.takable.run.once in
+    record {
+      rest = ap (λ (j : Sketch). without_walks j (drop (i + 1) ts)) c.take_walk.ensures.rest ∙ sym (at_drop_more (without_walks k) ts i none c.loop-step-test.true) ∙ c.loop-step.invariant.rest;
+      legal = subst (IsLegalSketch c.args.field.graph.now) (sym c.take_walk.ensures.rest) (off_legal c.args.field.graph.now c.requires.field.graph k c.loop-step.invariant.legal (get_or ts i none).seg);
+      walks = one_walk k c.take_walk.new.self ts i None c.loop-step.lifted.walks.items c.loop-step.lifted.walks.items once c.loop-step-test.true (sym c.in_default.is ∙ c.take_walk.ensures.walk) c.take_walk.ensures.rest (sym (append-nil c.loop-step.lifted.walks.items))
+          ∙ c.loop-step.invariant.walks;
+      points = ap (λ (j : Sketch). j.points) c.take_walk.ensures.rest ∙ c.loop-step.invariant.points;
+      inner = c.loop-step.invariant.inner;
+      moved = c.loop-step.invariant.moved;
+      weight = c.loop-step.invariant.weight;
+      least = c.loop-step.invariant.least;
+    }
+
+pub lift_between-requires : goal.lift_between-requires
+lift_between-requires c =
+    let ts = c.as_slice-steps.result.now in
+    let off : c.loop-step.sketch ≡ without_walks c.args.sketch.now ts = sym (at_drop_all (without_walks c.loop-step.sketch) ts c.loop-step.step-index c.loop-step-test.false) ∙ c.loop-step.invariant.rest in
+    subst (λ (k : Sketch). AreLiftable c.args.field.graph.now k (inner_nodes ts)) (sym off)
+    (subst (λ (v : List ChainStep). AreLiftable c.args.field.graph.now (without_walks c.args.sketch.now v) (inner_nodes v)) (sym c.as_slice-steps.ensures) c.requires.takable.inner)
+
+pub returns-clause-sketch : goal.returns-clause-sketch
+returns-clause-sketch c =
+    let ts = c.as_slice-steps.result.now in
+    let off : c.loop-step.sketch ≡ without_walks c.args.sketch.now ts = sym (at_drop_all (without_walks c.loop-step.sketch) ts c.loop-step.step-index c.loop-step-test.false) ∙ c.loop-step.invariant.rest in
+    subst (λ (x : Sketch). OnOk c.lift_between.result (c.lift_between.new.sketch ≡ x))
+    (ap (λ (k : Sketch). fold lifted_off k (inner_nodes ts)) off ∙ ap (λ (v : List ChainStep). fold lifted_off (without_walks c.args.sketch.now v) (inner_nodes v)) c.as_slice-steps.ensures) c.lift_between.ensures.sketch
+
+pub returns-clause-walks : goal.returns-clause-walks
+returns-clause-walks c =
+    let ts = c.as_slice-steps.result.now in
+    subst (λ (x : List (SegId × PlainWalk)). OnOk c.lift_between.result (c.lift_between.new.lifted.walks.items ≡ x))
+    (sym (append-nil c.loop-step.lifted.walks.items)
+    ∙ sym (at_drop_all (λ (v : List ChainStep). c.loop-step.lifted.walks.items ++ walks_along c.loop-step.sketch v) ts c.loop-step.step-index c.loop-step-test.false)
+    ∙ c.loop-step.invariant.walks
+    ∙ ap (λ (v : List ChainStep). c.args.lifted.now.walks.items ++ walks_along c.args.sketch.now v) c.as_slice-steps.ensures)
+    c.lift_between.ensures.walks
+
+pub returns-clause-inner : goal.returns-clause-inner
+returns-clause-inner c =
+    let ts = c.as_slice-steps.result.now in
+    subst (λ (x : List (NodeId × GridPoint)). OnOk c.lift_between.result (c.lift_between.new.lifted.inner.items ≡ x))
+    (ap₂ (λ (v : List (NodeId × GridPoint)) (ps : List GridPoint). v ++ map (λ (n : NodeId). (n, get_or ps n.0 (record { x = pos 0; y = pos 0 }))) (inner_nodes ts)) c.loop-step.invariant.inner c.loop-step.invariant.points
+    ∙ ap (λ (v : List ChainStep). c.args.lifted.now.inner.items ++ points_along c.args.sketch.now v) c.as_slice-steps.ensures)
+    c.lift_between.ensures.inner
+
+pub returns-clause-moved : goal.returns-clause-moved
+returns-clause-moved c = subst (λ (x : List (NodeId × GridPoint)). OnOk c.lift_between.result (c.lift_between.new.lifted.moved.items ≡ x)) c.loop-step.invariant.moved c.lift_between.ensures.moved
+
+pub returns-clause-rest : goal.returns-clause-rest
+returns-clause-rest c = subst (λ (x : ℕ). OnOk c.lift_between.result (c.lift_between.new.lifted.rest ≡ x)) c.loop-step.invariant.weight c.lift_between.ensures.rest
+
+pub returns-clause-least : goal.returns-clause-least
+returns-clause-least c = subst (λ (x : List LeastTurns). OnOk c.lift_between.result (c.lift_between.new.lifted.least.items ≡ x)) c.loop-step.invariant.least c.lift_between.ensures.least

@@ -1,0 +1,56 @@
+use Rattle.std.proofs.Common.{◌≡◌, sym, ◌∙◌, ap, subst, ℕ, ◌+◌, ◌<◌, ◌∷◌, ◌++◌, [], List, length, fold, get_or, drop, arith}
+use Rattle.std.proofs.lemmas.List.{at_drop_all, at_drop_more, drop_more, length_push}
+use Rattle.std.proofs.lemmas.Iterator.Adapters.{YieldsList-from_vec}
+use Rattle.std.proofs.lemmas.Iterator.Consumers.{YieldsList-end, YieldsList-turn}
+use Rattle.map_base.specs.declared.ids.SegId.{SegId}
+use Rattle.octi_grid.specs.Walks.{PlainWalk}
+use Rattle.run_laying.specs.Laying.{Sketch}
+use Rattle.drawing_search.specs.Changes.{walked_by, CanWalk, CanWalkEach}
+use Rattle.drawing_search.proofs.lifting.put_walks.Goals as goal
+
+-- the next segment may have its walk, and then the others
+next : (k : Sketch) (ms : List (SegId × PlainWalk)) (i : ℕ) (m : SegId × PlainWalk) → i < length ms → m ≡ get_or ms i m → CanWalkEach k (drop i ms) → CanWalk k m.0 m.1 × CanWalkEach (walked_by k m) (drop (i + 1) ms)
+next k ms i m h is can =
+    subst (λ (x : SegId × PlainWalk). CanWalk k x.0 x.1 × CanWalkEach (walked_by k x) (drop (i + 1) ms)) (sym is) (subst (CanWalkEach k) (drop_more ms i m h) can)
+
+pub put_walk-requires-clause-segment : goal.put_walk-requires-clause-segment
+put_walk-requires-clause-segment c =
+    let ms = c.args.walks.items in
+    let t = YieldsList-turn (YieldsList-from_vec ms (cc) (cc)) c.loop-s.yielded _ c.loop-s.yielded_by _ _ (c.in-Some.s, c.in-Some.walk) c.in-Some.is c.next.ensures.steps in
+    (next c.loop-s.sketch ms (length c.loop-s.yielded) (c.in-Some.s, c.in-Some.walk) t.0 t.1 c.loop-s.invariant.can).0.segment
+
+pub put_walk-requires-clause-free : goal.put_walk-requires-clause-free
+put_walk-requires-clause-free c =
+    let ms = c.args.walks.items in
+    let t = YieldsList-turn (YieldsList-from_vec ms (cc) (cc)) c.loop-s.yielded _ c.loop-s.yielded_by _ _ (c.in-Some.s, c.in-Some.walk) c.in-Some.is c.next.ensures.steps in
+    (next c.loop-s.sketch ms (length c.loop-s.yielded) (c.in-Some.s, c.in-Some.walk) t.0 t.1 c.loop-s.invariant.can).0.free
+
+pub put_walk-requires-clause-inside : goal.put_walk-requires-clause-inside
+put_walk-requires-clause-inside c =
+    let ms = c.args.walks.items in
+    let t = YieldsList-turn (YieldsList-from_vec ms (cc) (cc)) c.loop-s.yielded _ c.loop-s.yielded_by _ _ (c.in-Some.s, c.in-Some.walk) c.in-Some.is c.next.ensures.steps in
+    (next c.loop-s.sketch ms (length c.loop-s.yielded) (c.in-Some.s, c.in-Some.walk) t.0 t.1 c.loop-s.invariant.can).0.inside
+
+pub loop-s-preserved : goal.loop-s-preserved
+loop-s-preserved c =
+    let ms = c.args.walks.items in
+    let m = (c.in-Some.s, c.in-Some.walk) in
+    let done = c.loop-s.yielded in
+    let k = c.loop-s.sketch in
+    let t = YieldsList-turn (YieldsList-from_vec ms (cc) (cc)) done _ c.loop-s.yielded_by _ _ m c.in-Some.is c.next.ensures.steps in
+    let more : length (done ++ m ∷ []) ≡ length done + 1 = length_push done m in
+    record {
+      rest = ap (λ i. fold walked_by c.put_walk.new.self (drop i ms)) more
+          ∙ ap (λ (j : Sketch). fold walked_by j (drop (length done + 1) ms)) c.put_walk.ensures
+          ∙ ap (λ (x : SegId × PlainWalk). fold walked_by (walked_by k x) (drop (length done + 1) ms)) t.1
+          ∙ sym (at_drop_more (fold walked_by k) ms (length done) m t.0)
+          ∙ c.loop-s.invariant.rest;
+      can = subst (λ i. CanWalkEach c.put_walk.new.self (drop i ms)) (sym more)
+          (subst (λ (j : Sketch). CanWalkEach j (drop (length done + 1) ms)) (sym c.put_walk.ensures) (next k ms (length done) m t.0 t.1 c.loop-s.invariant.can).1);
+    }
+
+pub returns : goal.returns
+returns c =
+    let ms = c.args.walks.items in
+    let all = YieldsList-end (YieldsList-from_vec ms (cc) (cc)) c.loop-s.yielded _ c.loop-s.yielded_by _ _ c.in-None.is c.next.ensures.steps in
+    sym (at_drop_all (fold walked_by c.loop-s.sketch) ms (length c.loop-s.yielded) (omega (arith, all.1))) ∙ c.loop-s.invariant.rest

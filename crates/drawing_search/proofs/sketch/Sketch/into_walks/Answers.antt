@@ -1,0 +1,9 @@
+use Rattle.std.proofs.Common.{◌≡◌, ap, subst, List}
+use Rattle.std.specs.Prelude.{IfOk}
+use Rattle.octi_grid.specs.Walks.{PlainWalk}
+use Rattle.run_laying.specs.Laying.{Sketch}
+use Rattle.drawing_search.specs.Trying.{walks_of}
+use Rattle.drawing_search.proofs.sketch.Sketch.into_walks.Goals as goal
+
+pub returns : goal.returns
+returns c = subst (λ (ws : List PlainWalk). IfOk c.into_walks.result (λ walks. walks.items ≡ ws)) (ap walks_of c.self.view_is) c.into_walks.ensures

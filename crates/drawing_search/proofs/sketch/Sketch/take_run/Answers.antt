@@ -1,0 +1,50 @@
+use Rattle.std.proofs.Common.{◌≡◌, ℕ, ◌+◌, ◌<◌, List, length, fold, get_or, drop, sym, ap, subst, ◌∙◌}
+use Rattle.std.proofs.lemmas.List.{at_drop_all, at_drop_more}
+use Rattle.graph_core.specs.declared.parts.GraphParts.{GraphParts}
+use Rattle.line_chains.specs.declared.chain.Chain.{Chain}
+use Rattle.line_chains.specs.declared.chain.ChainStep.{ChainStep}
+use Rattle.segment_router.proofs.Places.{in_at}
+use Rattle.run_laying.specs.Attempts.{inner_nodes}
+use Rattle.run_laying.specs.Laying.{Sketch}
+use Rattle.run_laying.specs.Runs.{IsRun}
+use Rattle.run_laying.specs.Sketches.{lifted, IsLegalSketch}
+use Rattle.run_laying.proofs.RunFacts.{step_of}
+use Rattle.drawing_search.specs.Changes.{without_walks, AreLiftable}
+use Rattle.drawing_search.proofs.TakenOff.{off_legal}
+use Rattle.drawing_search.proofs.sketch.Sketch.take_run.Goals as goal
+
+abbrev none : ChainStep
+none = record { seg = record { 0 = 0 }; to = record { 0 = 0 } }
+
+segment_at : (graph : GraphParts) (c : Chain) → IsRun graph c → (ts : List ChainStep) → ts ≡ c.steps → (i : ℕ) → i < length ts → (get_or ts i none).seg.0 < length graph.ends
+segment_at graph c run ts same i h =
+    subst (λ (v : List ChainStep). (get_or v i none).seg.0 < length graph.ends) (sym same)
+    (step_of graph c.from c.steps run.steps (get_or c.steps i none) (in_at c.steps i none (subst (λ (v : List ChainStep). i < length v) same h))).segment
+
+pub take_walk-requires-clause-segment : goal.take_walk-requires-clause-segment
+take_walk-requires-clause-segment c = segment_at c.args.graph.now c.args.run.now c.requires.takable.run c.as_slice-steps.result.now c.as_slice-steps.ensures c.loop-step.step-index c.loop-step-test.true
+
+pub loop-step-preserved : goal.loop-step-preserved
+loop-step-preserved c =
+    let ts = c.as_slice-steps.result.now in
+    let i = c.loop-step.step-index in
+    let k = c.loop-step.self in
+    record {
+      rest = ap (λ (j : Sketch). without_walks j (drop (i + 1) ts)) c.take_walk.ensures.rest ∙ sym (at_drop_more (without_walks k) ts i none c.loop-step-test.true) ∙ c.loop-step.invariant.rest;
+      legal = subst (IsLegalSketch c.args.graph.now) (sym c.take_walk.ensures.rest) (off_legal c.args.graph.now c.requires.graph k c.loop-step.invariant.legal (get_or ts i none).seg);
+    }
+
+pub lift_between-requires : goal.lift_between-requires
+lift_between-requires c =
+    let ts = c.as_slice-steps.result.now in
+    let off : c.loop-step.self ≡ without_walks c.args.self.now ts = sym (at_drop_all (without_walks c.loop-step.self) ts c.loop-step.step-index c.loop-step-test.false) ∙ c.loop-step.invariant.rest in
+    subst (λ (k : Sketch). AreLiftable c.args.graph.now k (inner_nodes ts)) (sym off)
+    (subst (λ (v : List ChainStep). AreLiftable c.args.graph.now (without_walks c.args.self.now v) (inner_nodes v)) (sym c.as_slice-steps.ensures) c.requires.takable.inner)
+
+pub returns : goal.returns
+returns c =
+    let ts = c.as_slice-steps.result.now in
+    let off : c.loop-step.self ≡ without_walks c.args.self.now ts = sym (at_drop_all (without_walks c.loop-step.self) ts c.loop-step.step-index c.loop-step-test.false) ∙ c.loop-step.invariant.rest in
+    c.lift_between.ensures
+    ∙ ap (λ (k : Sketch). fold lifted k (inner_nodes ts)) off
+    ∙ ap (λ (v : List ChainStep). fold lifted (without_walks c.args.self.now v) (inner_nodes v)) c.as_slice-steps.ensures

@@ -1,0 +1,15 @@
+use Rattle.std.proofs.Common.{◌≡◌, drop, fold, map}
+use Rattle.map_base.specs.declared.ids.NodeId.{NodeId}
+use Rattle.octi_grid.specs.declared.point.GridPoint.{GridPoint}
+use Rattle.run_laying.specs.Sketches.{lifted}
+use Rattle.drawing_search.specs.Changes.{AreLiftable}
+use Rattle.drawing_search.proofs.trying.Search.lift_moved.Given as goal
+
+-- the nodes that are left are taken off what there is
+abbrev pub invariant-loop-known : goal.invariant-loop-known
+invariant-loop-known l = record {
+  rest : fold lifted l.self.sketch (map (λ (m : NodeId × GridPoint). m.0) (drop l.known-index l.moved)) ≡ fold lifted l.initial.self.sketch (map (λ (m : NodeId × GridPoint). m.0) l.moved);
+  can : AreLiftable l.field.graph.now l.self.sketch (map (λ (m : NodeId × GridPoint). m.0) (drop l.known-index l.moved));
+  weight : l.self.weight ≡ l.initial.self.weight;
+  made : l.self.made ≡ l.initial.self.made;
+}

@@ -1,0 +1,13 @@
+-- rounds, ways from corners, and ways from their ends
+mod Rounds
+mod Ways
+mod Turned
+-- rings and bends: chains between the corners are runs, and beside each other
+mod Straight
+mod Corners
+mod ChainRuns
+-- so the attempts of a pass fit the graph
+mod Fitting
+-- groups one after another, and what straightening promises
+mod Pushed
+mod Promised

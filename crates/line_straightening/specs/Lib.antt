@@ -1,0 +1,4 @@
+-- Lines that run straight through their stations.
+pub mod Straightening
+pub mod Straightened
+pub mod Groups

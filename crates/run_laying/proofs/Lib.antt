@@ -1,0 +1,15 @@
+pub mod Reversed
+pub mod Cuts
+pub mod Standing
+pub mod Added
+pub mod Shown
+pub mod Turned
+pub mod Piecewise
+pub mod FreeRoutes
+pub mod RunFacts
+pub mod LaidRuns
+pub mod EvenCuts
+pub mod Attempted
+pub mod Whole
+pub mod Begun
+pub mod Kept
