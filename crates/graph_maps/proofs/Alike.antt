@@ -6,7 +6,7 @@ use Rattle.map_method.specs.Methods.{MethodChoices}
 use Rattle.graph_core.specs.declared.parts.GraphParts.{GraphParts}
 use Rattle.octi_grid.specs.Walks.{PlainWalk}
 use Rattle.segment_router.specs.declared.fault.RouteFault.{RouteFault}
-use Rattle.segment_router.specs.Routing.{route_outcome}
+use Rattle.kept_walks.specs.Drawings.{drawing_outcome}
 use Rattle.order_terms.specs.Limits.{graph_problem}
 use Rattle.kept_trees.specs.declared.plan.SearchPlan.{SearchPlan}
 use Rattle.map_faults.specs.declared.fault.MakeFault.{MakeFault}
@@ -38,9 +38,9 @@ pub made_the_same : (subject : Subject) (some other : Choices) (method : MethodC
     → made_on subject some method graph ≡ made_on subject other method graph
 made_the_same subject some other method graph weights cell budget =
     let drawn : drawn_on subject.importance some method graph ≡ drawn_on subject.importance other method graph =
-    ap (λ (n : ℕ). routed_by subject.importance some graph (route_outcome graph n method.spread method.finest)) cell
+    ap (λ (n : ℕ). routed_by subject.importance some graph (drawing_outcome graph n method.spread method.finest method.straight)) cell
     ∙ routed_alike subject.importance some other graph
-    (route_outcome graph other.cell method.spread method.finest) weights in
+    (drawing_outcome graph other.cell method.spread method.finest method.straight) weights in
     ap (λ (o : Result Drawn MakeFault). if_solved (solved_map subject) (solved_of some method o)) drawn
     ∙ ap (if_solved (solved_map subject))
     (solved_alike some other method (drawn_on subject.importance other method graph) budget)

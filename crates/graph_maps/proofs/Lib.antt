@@ -9,6 +9,7 @@ pub mod Shown
 mod SolveLemmas
 mod Importance
 mod DrawingLemmas
+mod Straightened
 mod UntangledLemmas
 mod MovedDrawings
 pub mod MadeLemmas

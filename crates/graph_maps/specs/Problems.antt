@@ -6,7 +6,7 @@ use Rattle.map_method.specs.Methods.{MethodChoices}
 use Rattle.graph_core.specs.declared.parts.GraphParts.{GraphParts}
 use Rattle.octi_grid.specs.Walks.{PlainWalk}
 use Rattle.segment_router.specs.declared.fault.RouteFault.{RouteFault}
-use Rattle.segment_router.specs.Routing.{route_outcome}
+use Rattle.kept_walks.specs.Drawings.{drawing_outcome, straightened_walks}
 use Rattle.order_model.specs.declared.problem.ProblemParts.{ProblemParts}
 use Rattle.order_values.specs.declared.rule.Rule.{Rule}
 use Rattle.order_rules.specs.Untangling.{untangling}
@@ -47,7 +47,7 @@ abbrev pub drawn_with : GraphParts → List PlainWalk → Result ProblemParts Li
 drawn_with graph walks (Ok problem) = Ok (record { graph = graph; walks = walks; problem = problem })
 drawn_with graph walks (Err limit) = Err (fault.Limit limit)
 
--- what comes of a graph and its route
+-- what comes of a graph and its drawing
 abbrev pub routed_by : List ℕ → Choices → GraphParts → Result (List PlainWalk) RouteFault → Result Drawn MakeFault
 routed_by importance choices graph (Ok walks) = drawn_with graph walks (problem_within importance choices graph)
 routed_by importance choices graph (Err stop) = Err (of_route stop)
@@ -55,4 +55,10 @@ routed_by importance choices graph (Err stop) = Err (of_route stop)
 -- The drawing of a line graph and the problem of its line orders: its walks come first, then its terms are counted.
 abbrev pub drawn_on : List ℕ → Choices → MethodChoices → GraphParts → Result Drawn MakeFault
 drawn_on importance choices method graph = routed_by importance choices graph
-    (route_outcome graph choices.cell method.spread method.finest)
+    (drawing_outcome graph choices.cell method.spread method.finest method.straight)
+
+-- a drawing after straightening, as the method says; its line graph and its problem stay
+abbrev pub straightened_drawing : Choices → MethodChoices → Result Drawn MakeFault → Result Drawn MakeFault
+straightened_drawing choices method (Ok drawn) =
+    Ok (record drawn { walks = straightened_walks drawn.graph choices.cell method.straight drawn.walks })
+straightened_drawing choices method (Err stop) = Err stop

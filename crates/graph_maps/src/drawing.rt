@@ -34,12 +34,19 @@ pub(crate) fn drawn_map(
     requires lines { AreListed importance.now graph.now }
     ensures outcome { Gives (drawn_of graph.now) result (drawn_on importance.now settings.now method.now graph.now) }
     ensures drawing { IfOk result (λ d. IsDrawing graph.now d.0.walks) }
-    ensures near { IfOk result (λ d. are_near 1800 d.0.walks ≡ true) }
+    ensures near { IfOk result (λ d. are_near 1820 d.0.walks ≡ true) }
     ensures problem { IfOk result (λ d. d.1 ≡ problem_of importance.now settings.now graph.now) }
     ensures problem_fits { IfOk result (λ d. IsProblem d.1) }
 {
     let _nodes = graph.nodes();
-    let drawing = last.route(alloc, graph, settings.cell, method.spread, method.finest)?;
+    let drawing = last.draw(
+        alloc,
+        graph,
+        settings.cell,
+        method.spread,
+        method.finest,
+        method.straight,
+    )?;
     are_walks(drawing.walks.as_slice());
     illegal_drawings_have_a_first_walk();
     let problem = terms_of(alloc, graph, &settings.weights, importance)?;

@@ -35,7 +35,7 @@ pub use kept_walks::KeptWalks;
 pub use labelled::labels_from;
 pub use laws::{
     each_certificate_is_read_from_its_text, each_other_text_is_refused_at_its_first_wrong_line,
-    maps_depend_on_three_settings, moves_change_walks_alone,
+    maps_depend_on_three_settings, moves_change_walks_alone, straightening_changes_walks_alone,
 };
 pub use made::Made;
 pub use making::{make_from, make_improved_from};

@@ -138,7 +138,7 @@ fn moved_map(
     moves: u32,
 ) -> Result<ImprovedMap, NoMemory>
     requires drawing { IsDrawing graph.now drawing.walks }
-    requires near { are_near 1800 drawing.walks ≡ true }
+    requires near { are_near 1820 drawing.walks ≡ true }
     requires lines { AreListed importance.now graph.now }
     requires few { length importance.now < 2 ^ 32 }
     requires orders { AreOrders graph.now.lines best.orders.lists }

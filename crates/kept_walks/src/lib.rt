@@ -1,12 +1,13 @@
-//! The drawing of a line graph that was routed last.
+//! The drawing of a line graph, routed and straightened, and the one that was made last.
 //!
-//! It is taken again where nothing changed on which it depends: the line graph, the cells, how nodes are spread and the
-//! finest grid. What is taken again is what would be routed anew, so nothing that is kept shows in an answer.
+//! That is taken again where nothing changed on which it depends: the line graph, the cells, how nodes are spread, the
+//! finest grid and how many attempts may straighten it. What is taken again is what would be drawn anew, so nothing that is
+//! kept shows in an answer.
 #![tactic(auto)]
 
 mod copies;
-mod routed;
+mod drawn;
 mod same_graphs;
 
 pub use copies::copy_of_graph;
-pub use routed::KeptWalks;
+pub use drawn::KeptWalks;

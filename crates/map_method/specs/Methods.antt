@@ -11,6 +11,7 @@ pub record MethodChoices : Type 0 where
   pub claim : Claim
   pub spread : Spread
   pub finest : ℕ
+  pub straight : ℕ
   pub moves : ℕ
 
 -- at most the whole way
@@ -26,4 +27,5 @@ IsFinest finest = (finest ≡ 4) ⊎ (finest ≡ 8) ⊎ (finest ≡ 16)
 pub record IsMethod (method : MethodChoices) : Type 0 where
   pub spread : IsSpread method.spread
   pub finest : IsFinest method.finest
+  pub straight : method.straight ≤ 10000
   pub moves : method.moves ≤ 10000

@@ -15,7 +15,8 @@ use std::alloc::Global;
 pub enum Defaults {
     /// Those of `make`: few tries, on coarse grids.
     Make,
-    /// Those of `map`: every real network is drawn, its dense centre gets room, and its orders are found.
+    /// Those of `map`: every real network is drawn, its dense centre gets room, its lines run straight, and its orders are
+    /// found.
     Map,
 }
 
@@ -30,6 +31,7 @@ impl Defaults {
                 claim: Claim::Best,
                 spread: Spread::Percent(0),
                 finest: 4,
+                straight: 0,
                 moves: 0,
             },
             Defaults::Map => Method {
@@ -37,7 +39,8 @@ impl Defaults {
                 claim: Claim::Best,
                 spread: Spread::Auto,
                 finest: 16,
-                moves: 1_000,
+                straight: 1_000,
+                moves: 0,
             },
         }
     }

@@ -16,7 +16,9 @@ pub struct Method {
     pub spread: Spread,
     /// How fine the finest grid is on which a drawing is tried: 4, 8 or 16 times as fine as the first one.
     pub finest: u32,
-    /// How many improving moves may follow the routes: at most 10,000.
+    /// How many improving attempts may straighten the routes: at most 10,000.
+    pub straight: u32,
+    /// How many improving moves may follow them: at most 10,000.
     pub moves: u32,
 }
 
@@ -25,7 +27,7 @@ impl Model for Method {
 
     ghost Value = { MethodChoices };
 
-    ghost view = { λ m. record { search = m.search; claim = m.claim; spread = m.spread; finest = m.finest; moves = m.moves } };
+    ghost view = { λ m. record { search = m.search; claim = m.claim; spread = m.spread; finest = m.finest; straight = m.straight; moves = m.moves } };
 
-    ghost invariant = { λ m. IsMethod (record { search = m.search; claim = m.claim; spread = m.spread; finest = m.finest; moves = m.moves }) };
+    ghost invariant = { λ m. IsMethod (record { search = m.search; claim = m.claim; spread = m.spread; finest = m.finest; straight = m.straight; moves = m.moves }) };
 }

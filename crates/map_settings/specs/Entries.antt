@@ -9,7 +9,7 @@ use Rattle.map_method.specs.declared.claim.Claim.{Claim}
 use Rattle.map_method.specs.declared.spread.Spread.{Spread}
 use Rattle.map_method.specs.Methods.{MethodChoices}
 use Rattle.toml.specs.Data.{Data}
-use Rattle.map_settings.specs.Values.{near_of, cell_of, budget_of, types_of, weights_of, importance_of, search_of, claim_of, spread_of, finest_of, moves_of}
+use Rattle.map_settings.specs.Values.{near_of, cell_of, budget_of, types_of, weights_of, importance_of, search_of, claim_of, spread_of, finest_of, straight_of, moves_of}
 
 -- a change of the settings of a map
 abbrev pub near_is : ℕ → Choices → Choices
@@ -46,6 +46,9 @@ spread_is spread method = record method { spread = spread }
 abbrev pub finest_is : ℕ → MethodChoices → MethodChoices
 finest_is finest method = record method { finest = finest }
 
+abbrev pub straight_is : ℕ → MethodChoices → MethodChoices
+straight_is straight method = record method { straight = straight }
+
 abbrev pub moves_are : ℕ → MethodChoices → MethodChoices
 moves_are moves method = record method { moves = moves }
 
@@ -69,6 +72,7 @@ method_change entry =
     else if bytes_eq entry.0 (codes "proof") then option_map claim_is (claim_of entry.1)
     else if bytes_eq entry.0 (codes "spread") then option_map spread_is (spread_of entry.1)
     else if bytes_eq entry.0 (codes "finest") then option_map finest_is (finest_of entry.1)
+    else if bytes_eq entry.0 (codes "straight") then option_map straight_is (straight_of entry.1)
     else if bytes_eq entry.0 (codes "moves") then option_map moves_are (moves_of entry.1)
     else None
 
@@ -76,7 +80,7 @@ method_change entry =
 abbrev pub is_of_method : List ℕ → Bool
 is_of_method key =
     bytes_eq key (codes "search") || bytes_eq key (codes "proof") || bytes_eq key (codes "spread")
-    || bytes_eq key (codes "finest") || bytes_eq key (codes "moves")
+    || bytes_eq key (codes "finest") || bytes_eq key (codes "straight") || bytes_eq key (codes "moves")
 
 -- a change of both
 abbrev pub Change : Type 0

@@ -115,6 +115,10 @@ four_eight_sixteen finest = if finest == 4 || finest == 8 || finest == 16 then S
 abbrev pub finest_of : Data → Option ℕ
 finest_of value = option_and_then four_eight_sixteen (whole_number 4 16 value)
 
+-- how many attempts may straighten the routes
+abbrev pub straight_of : Data → Option ℕ
+straight_of value = whole_number 0 10000 value
+
 -- how many moves may follow the routes
 abbrev pub moves_of : Data → Option ℕ
 moves_of value = whole_number 0 10000 value

@@ -8,7 +8,7 @@ ghost use Rattle.map_settings.specs.Entries.{change_of, is_of_method, method_cha
 use crate::fault::EntryFault;
 use crate::values::{
     budget_of, cell_of, claim_of, finest_of, importance_of, moves_of, near_of, search_of,
-    spread_of, types_of, weights_of,
+    spread_of, straight_of, types_of, weights_of,
 };
 use map_base::Settings;
 use map_method::{MapSettings, Method};
@@ -35,7 +35,7 @@ fn is_of_method(key: &str) -> bool
     ensures { result ≡ is_of_method key.now }
 {
     match key {
-        "search" | "proof" | "spread" | "finest" | "moves" => true,
+        "search" | "proof" | "spread" | "finest" | "straight" | "moves" => true,
         _ => false,
     }
 }
@@ -69,6 +69,7 @@ fn change_method(method: &mut Method, key: &str, value: &Value) -> Result<(), En
         "proof" => method.claim = claim_of(value).ok_or(EntryFault::Bad)?,
         "spread" => method.spread = spread_of(value).ok_or(EntryFault::Bad)?,
         "finest" => method.finest = finest_of(value).ok_or(EntryFault::Bad)?,
+        "straight" => method.straight = straight_of(value).ok_or(EntryFault::Bad)?,
         "moves" => method.moves = moves_of(value).ok_or(EntryFault::Bad)?,
         _ => return Err(EntryFault::Bad),
     }

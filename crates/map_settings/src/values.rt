@@ -6,7 +6,7 @@ ghost use Rattle.map_base.specs.Settings.{AreLight, AreRisingIds, IsImportance};
 ghost use Rattle.map_settings.specs.Faults.{Gives};
 ghost use Rattle.map_settings.specs.Tables.{entries};
 ghost use Rattle.map_method.specs.Methods.{IsFinest, IsSpread};
-ghost use Rattle.map_settings.specs.Values.{whole_number, near_of, cell_of, budget_of, types_of, route_types, weights_of, three_weights, importance_of, importances, search_of, search_named, claim_of, claim_named, spread_of, spread_named, finest_of, moves_of};
+ghost use Rattle.map_settings.specs.Values.{whole_number, near_of, cell_of, budget_of, types_of, route_types, weights_of, three_weights, importance_of, importances, search_of, search_named, claim_of, claim_named, spread_of, spread_named, finest_of, straight_of, moves_of};
 
 use crate::fault::EntryFault;
 use map_base::{Sequence, Text, Weights};
@@ -213,6 +213,14 @@ pub fn finest_of(value: &Value) -> Option<u32>
         Some(finest) if finest == 4 || finest == 8 || finest == 16 => Some(finest),
         _ => None,
     }
+}
+
+/// How many attempts may straighten the routes: 0 to 10,000.
+pub fn straight_of(value: &Value) -> Option<u32>
+    ensures value { result ≡ straight_of (view value.now) }
+    ensures range { IfSome result (λ straight. straight ≤ 10000) }
+{
+    whole_number(value, 0, 10_000)
 }
 
 /// How many moves may follow the routes: 0 to 10,000.

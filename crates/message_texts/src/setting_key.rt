@@ -14,6 +14,7 @@ pub enum SettingKey {
     Cell,
     Spread,
     Finest,
+    Straight,
     Moves,
     Search,
     Proof,
@@ -21,7 +22,7 @@ pub enum SettingKey {
 }
 
 /// All keys.
-pub const SETTING_KEYS: [SettingKey; 12] = [
+pub const SETTING_KEYS: [SettingKey; 13] = [
     SettingKey::Types,
     SettingKey::Near,
     SettingKey::Junction,
@@ -30,6 +31,7 @@ pub const SETTING_KEYS: [SettingKey; 12] = [
     SettingKey::Cell,
     SettingKey::Spread,
     SettingKey::Finest,
+    SettingKey::Straight,
     SettingKey::Moves,
     SettingKey::Search,
     SettingKey::Proof,
@@ -50,6 +52,7 @@ impl SettingKey {
             SettingKey::Cell => "cell",
             SettingKey::Spread => "spread",
             SettingKey::Finest => "finest",
+            SettingKey::Straight => "straight",
             SettingKey::Moves => "moves",
             SettingKey::Search => "search",
             SettingKey::Proof => "proof",
@@ -85,7 +88,7 @@ impl SettingKey {
             SettingKey::Cell => "0, or a whole number of decimetres from 10 to 1000000",
             SettingKey::Spread => "a whole number of per cent from 0 to 100, or \"auto\"",
             SettingKey::Finest => "4, 8 or 16",
-            SettingKey::Moves => "a whole number from 0 to 10000",
+            SettingKey::Straight | SettingKey::Moves => "a whole number from 0 to 10000",
             SettingKey::Search => "\"live\" or \"dual\"",
             SettingKey::Proof => "\"best\" or \"bound\"",
             SettingKey::Budget => "a whole number from 1 to 100000",

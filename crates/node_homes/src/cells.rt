@@ -2,7 +2,7 @@
 
 ghost use Rattle.std.specs.Prelude.{◌≡◌, ◌≤◌, ◌<◌, ◌*◌, ◌^◌, ◌-ℤ◌, length, max, IfOk, unsigned_abs};
 ghost use Rattle.graph_core.specs.Consistent.{IsConsistent};
-ghost use Rattle.node_homes.specs.Cells.{ceil_quotient, first_number, greatest_number, greater, grid_over, least_number, lesser, limit_of, offsets_of, root_up, side_of, AreExtents};
+ghost use Rattle.node_homes.specs.Cells.{ceil_quotient, cell_side, first_number, greatest_number, greater, grid_over, least_number, lesser, limit_of, offsets_of, root_up, side_of, AreExtents};
 ghost use Rattle.node_homes.specs.Nodes.{coordinates, coordinate_at};
 
 use crate::placing::Offset;
@@ -126,6 +126,14 @@ fn ceil_quotient(a: u64, b: u64) -> u64
     ensures { result ≡ ceil_quotient a b }
 {
     (a + b - 1) / b
+}
+
+/// The side of the cells over a line graph, in decimetres: what is asked for, and for 0 a fiftieth of its greater extent.
+pub fn side_over(graph: &LineGraph, cell: u32) -> u32
+    ensures value { result ≡ cell_side graph.now.places cell }
+    ensures some { 0 < result }
+{
+    cell_side(extents_of(graph), cell)
 }
 
 /// The side of a cell in decimetres: what is asked for, and for 0 a fiftieth of the greater extent.

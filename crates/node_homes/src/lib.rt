@@ -11,7 +11,7 @@ mod placing;
 mod spot;
 mod spreading;
 
-pub use cells::cells_over;
+pub use cells::{cells_over, side_over};
 pub use laws::spreading_keeps_sides;
 pub use placing::{Offset, Placing, place, place_spread};
 pub use spreading::{Place, places_of};

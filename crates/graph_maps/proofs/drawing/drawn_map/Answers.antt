@@ -6,7 +6,7 @@ use Rattle.map_base.specs.Faults as terms
 use Rattle.map_method.specs.Methods.{MethodChoices}
 use Rattle.order_model.specs.declared.problem.ProblemParts.{ProblemParts}
 use Rattle.order_terms.specs.Limits.{graph_problem}
-use Rattle.segment_router.specs.Routing.{route_outcome}
+use Rattle.kept_walks.specs.Drawings.{drawing_outcome}
 use Rattle.segment_router.specs.Routing as routing
 use Rattle.graph_maps.specs.Problems.{problem_within}
 use Rattle.graph_maps.proofs.Importance.{have_importance}
@@ -27,9 +27,9 @@ returns-clause-outcome c =
     let importance = c.args.importance.now in
     let choices = c.args.settings.now in
     let inside = c.method.inside in
-    let with_cell = subst (λ (s : Choices). route_outcome graph s.cell inside.spread inside.finest
+    let with_cell = subst (λ (s : Choices). drawing_outcome graph s.cell inside.spread inside.finest inside.straight
     ≡ Ok c.in_ok-drawing.drawing.walks) c.settings.view_is c.in_ok-drawing.ensures.drawing in
-    let routed = subst (λ (m : MethodChoices). route_outcome graph choices.cell m.spread m.finest
+    let routed = subst (λ (m : MethodChoices). drawing_outcome graph choices.cell m.spread m.finest m.straight
     ≡ Ok c.in_ok-drawing.drawing.walks) c.method.view_is with_cell in
     let counted : problem_within importance choices graph ≡ Ok c.in_ok-problem.problem =
     sym (ap (λ (s : Choices). graph_problem graph s.weights importance) c.settings.view_is) ∙ c.in_ok-problem.ensures in
@@ -51,10 +51,10 @@ returns-in_err-drawing-clause-outcome c =
     let stop = c.in_err-drawing.field-0.0 in
     let inside = c.method.inside in
     let with_cell = subst (λ (s : Choices). routing.HasCause
-    (route_outcome graph s.cell inside.spread inside.finest) stop) c.settings.view_is c.in_err-drawing.ensures.cause
+    (drawing_outcome graph s.cell inside.spread inside.finest inside.straight) stop) c.settings.view_is c.in_err-drawing.ensures.cause
     in
     let cause = subst (λ (m : MethodChoices). routing.HasCause
-    (route_outcome graph c.args.settings.now.cell m.spread m.finest) stop) c.method.view_is with_cell in
+    (drawing_outcome graph c.args.settings.now.cell m.spread m.finest m.straight) stop) c.method.view_is with_cell in
     let same = err_from_is_err_and c.from_residual.result c.from_residual.ensures.1 in
     rw (same.1, same.2) (not_routed c.args.importance.now c.args.settings.now c.args.method.now graph stop cause)
 
@@ -65,9 +65,9 @@ returns-in_err-problem-clause-outcome c =
     let choices = c.args.settings.now in
     let stop = c.in_err-problem.field-0.0 in
     let inside = c.method.inside in
-    let with_cell = subst (λ (s : Choices). route_outcome graph s.cell inside.spread inside.finest
+    let with_cell = subst (λ (s : Choices). drawing_outcome graph s.cell inside.spread inside.finest inside.straight
     ≡ Ok c.in_ok-drawing.drawing.walks) c.settings.view_is c.in_ok-drawing.ensures.drawing in
-    let routed = subst (λ (m : MethodChoices). route_outcome graph choices.cell m.spread m.finest
+    let routed = subst (λ (m : MethodChoices). drawing_outcome graph choices.cell m.spread m.finest m.straight
     ≡ Ok c.in_ok-drawing.drawing.walks) c.method.view_is with_cell in
     let counted : graph_problem graph c.settings.inside.weights importance ≡ problem_within importance choices graph =
     ap (λ (s : Choices). graph_problem graph s.weights importance) c.settings.view_is in

@@ -4,11 +4,11 @@ use Rattle.graph_maps.proofs.MovedDrawings.{near_more, written_by}
 use Rattle.graph_maps.proofs.making.moved_map.Goals as goal
 
 pub moved-requires-clause-near : goal.moved-requires-clause-near
-moved-requires-clause-near c = near_more 1800 1900 c.args.drawing.walks (omega arith) c.requires.near
+moved-requires-clause-near c = near_more 1820 1900 c.args.drawing.walks (omega arith) c.requires.near
 
 pub moved-requires-2-clause-near : goal.moved-requires-2-clause-near
 moved-requires-2-clause-near c =
-    near_more 1804 1900 c.in_ok-once.once.walks (omega arith) (c.in_ok-once.ensures.near 1800 c.requires.near)
+    near_more 1824 1900 c.in_ok-once.once.walks (omega arith) (c.in_ok-once.ensures.near 1820 c.requires.near)
 
 pub returns : goal.returns
 returns c =

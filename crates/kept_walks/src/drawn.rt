@@ -1,0 +1,208 @@
+//! The drawing that was made last.
+
+ghost use Rattle.std.specs.Prelude.{◌≡◌, length, true, IfOk, IfErr, IfSome, Ok};
+ghost use Rattle.map_method.specs.Methods.{IsSpread};
+ghost use Rattle.octi_grid.specs.Legal.{legal};
+ghost use Rattle.grid_board.specs.Points.{are_near};
+ghost use Rattle.drawing_weights.specs.Drawn.{IsDrawn};
+ghost use Rattle.segment_router.specs.Routing.{HasCause};
+ghost use Rattle.kept_walks.specs.Drawings.{drawing_outcome, straightened_walks, AreDrawn};
+
+use crate::copies::{copy_of_drawing, copy_of_graph};
+use crate::same_graphs::are_same_graphs;
+use graph_core::LineGraph;
+use line_straightening::straighten;
+use map_base::NoMemory;
+use map_method::Spread;
+use node_homes::side_over;
+use octi_grid::Drawing;
+use segment_router::{RouteFault, route};
+use std::alloc::Global;
+use std::marker::Model;
+
+/// A drawing, and the line graph that it is of. Contracts see it as the walks.
+#[derive(Drop)]
+struct DrawnGraph {
+    graph: LineGraph,
+    cell: u32,
+    spread: Spread,
+    finest: u32,
+    straight: u32,
+    drawing: Drawing,
+}
+
+impl Model for DrawnGraph {
+    ghost use Rattle.std.specs.Prelude.{List};
+    ghost use Rattle.octi_grid.specs.Walks.{PlainWalk};
+    ghost use Rattle.kept_walks.specs.Drawings.{AreDrawn};
+
+    ghost Value = { List PlainWalk };
+
+    ghost view = { λ r. r.drawing.walks };
+
+    ghost invariant = { λ r. AreDrawn r.graph r.cell r.spread r.finest r.straight r.drawing.walks };
+}
+
+impl DrawnGraph {
+    /// The drawing, if it is that of this line graph.
+    fn drawing_for(
+        &self,
+        alloc: Global,
+        graph: &LineGraph,
+        cell: u32,
+        spread: Spread,
+        finest: u32,
+        straight: u32,
+    ) -> Result<Option<Drawing>, NoMemory>
+        ensures { IfOk result (λ found. IfSome found (λ d. AreDrawn graph.now cell spread finest straight d.walks)) }
+    {
+        if self.cell != cell || self.spread != spread {
+            return Ok(None);
+        }
+        if self.finest != finest || self.straight != straight {
+            return Ok(None);
+        }
+        if !are_same_graphs(&self.graph, graph) {
+            return Ok(None);
+        }
+        Ok(Some(copy_of_drawing(alloc, &self.drawing)?))
+    }
+}
+
+/// The drawing that was made last, if it is kept. What is drawn is the same whatever is kept.
+#[derive(Drop)]
+pub struct KeptWalks {
+    keeps: bool,
+    last: Option<DrawnGraph>,
+}
+
+impl KeptWalks {
+    /// Holds none yet, and keeps the next one.
+    pub fn none() -> KeptWalks {
+        KeptWalks {
+            keeps: true,
+            last: None,
+        }
+    }
+
+    /// Holds none, and keeps none: for a graph that is drawn once.
+    pub fn never() -> KeptWalks {
+        KeptWalks {
+            keeps: false,
+            last: None,
+        }
+    }
+
+    /// The drawing of a line graph: its routes, as `route` of segment_router gives them, straightened by at most so many
+    /// improving attempts. That which was made last is taken, where the line graph, the cells, the spreading, the finest grid
+    /// and the attempts are the same.
+    pub fn draw(
+        &mut self,
+        alloc: Global,
+        graph: &LineGraph,
+        cell: u32,
+        spread: Spread,
+        finest: u32,
+        straight: u32,
+    ) -> Result<Drawing, RouteFault>
+        requires { IsSpread spread }
+        ensures drawing { IfOk result (λ d. drawing_outcome graph.now cell spread finest straight ≡ Ok d.walks) }
+        ensures cause { IfErr result (λ fault. HasCause (drawing_outcome graph.now cell spread finest straight) fault) }
+        ensures legal { IfOk result (λ d. legal graph.now d.walks ≡ true) }
+        ensures each { IfOk result (λ d. length d.walks ≡ length graph.now.ends) }
+        ensures near { IfOk result (λ d. are_near 1820 d.walks ≡ true) }
+    {
+        if let Some(drawing) = self.find(alloc, graph, cell, spread, finest, straight)? {
+            return Ok(drawing);
+        }
+        let drawing = drawn(alloc, graph, cell, spread, finest, straight)?;
+        if self.keeps {
+            self.keep(alloc, graph, cell, spread, finest, straight, &drawing)?;
+        }
+        Ok(drawing)
+    }
+
+    /// The drawing that is held, if it is that of this line graph.
+    fn find(
+        &self,
+        alloc: Global,
+        graph: &LineGraph,
+        cell: u32,
+        spread: Spread,
+        finest: u32,
+        straight: u32,
+    ) -> Result<Option<Drawing>, NoMemory>
+        ensures { IfOk result (λ found. IfSome found (λ d. AreDrawn graph.now cell spread finest straight d.walks)) }
+    {
+        match &self.last {
+            Some(last) => last.drawing_for(alloc, graph, cell, spread, finest, straight),
+            None => Ok(None),
+        }
+    }
+
+    /// Keeps the drawing of a line graph.
+    fn keep(
+        &mut self,
+        alloc: Global,
+        graph: &LineGraph,
+        cell: u32,
+        spread: Spread,
+        finest: u32,
+        straight: u32,
+        drawing: &Drawing,
+    ) -> Result<(), NoMemory>
+        requires { AreDrawn graph.now cell spread finest straight drawing.now.walks }
+    {
+        let graph = copy_of_graph(alloc, graph)?;
+        let drawing = copy_of_drawing(alloc, drawing)?;
+        self.last = Some(DrawnGraph {
+            graph,
+            cell,
+            spread,
+            finest,
+            straight,
+            drawing,
+        });
+        Ok(())
+    }
+}
+
+/// The drawing of a line graph, whatever is kept.
+fn drawn(
+    alloc: Global,
+    graph: &LineGraph,
+    cell: u32,
+    spread: Spread,
+    finest: u32,
+    straight: u32,
+) -> Result<Drawing, RouteFault>
+    requires { IsSpread spread }
+    ensures drawn { IfOk result (λ d. AreDrawn graph.now cell spread finest straight d.walks) }
+    ensures cause { IfErr result (λ fault. HasCause (drawing_outcome graph.now cell spread finest straight) fault) }
+{
+    let routes = route(alloc, graph, cell, spread, finest)?;
+    Ok(straightened(alloc, graph, routes, cell, straight)?)
+}
+
+/// Routes, straightened.
+fn straightened(
+    alloc: Global,
+    graph: &LineGraph,
+    routes: Drawing,
+    cell: u32,
+    straight: u32,
+) -> Result<Drawing, NoMemory>
+    requires drawn { IsDrawn graph.now routes.walks }
+    requires near { are_near 1800 routes.walks ≡ true }
+    ensures walks { IfOk result (λ d. d.walks ≡ straightened_walks graph.now cell straight routes.walks) }
+    ensures legal { IfOk result (λ d. legal graph.now d.walks ≡ true) }
+    ensures each { IfOk result (λ d. length d.walks ≡ length graph.now.ends) }
+    ensures near { IfOk result (λ d. are_near 1820 d.walks ≡ true) }
+{
+    if straight == 0 {
+        return Ok(routes);
+    }
+    let side = side_over(graph, cell);
+    let searched = straighten(alloc, graph, routes, side, straight)?;
+    Ok(searched.drawing)
+}
