@@ -1,4 +1,5 @@
 -- Sums over a part's terms: of those that count, and of the others.
+use mathlib.Core.Bool.{beq}
 use Rattle.std.proofs.Common.{◌≡◌, ℕ, zero, suc, ◌+◌, ◌*◌, ◌<◌, ◌≤◌, ◌==◌, ◌&&◌, ◌||◌, ◌++◌, not, Bool, true, false, cond, List, [], ◌∷◌, length, map, take, get_or, refl, sym, ◌∙◌, ap, subst, arith, length-append, append_assoc, append-nil, true≢false}
 use Rattle.std.specs.Prelude.{ℤ, pos, ◌+ℤ◌, ◌-ℤ◌, unsigned_abs}
 use Rattle.std.specs.List.{sum_by, filter}
@@ -11,7 +12,6 @@ use Rattle.std.proofs.lemmas.List.Sums.{sum_by-cons}
 use Rattle.map_base.specs.declared.ids.LineId.{LineId}
 use Rattle.order_model.specs.declared.term.Term.{Term}
 use Rattle.order_model.specs.Problems.{lines_on, IsTerm}
-use Rattle.order_model.specs.Costs.{same_answer}
 use Rattle.order_model.specs.Prefixes.{is_left}
 use Rattle.order_model.proofs.PlaceLemmas.{line_is}
 use Rattle.order_bound.specs.Decided.{decided_cost, decided_sum}
@@ -153,18 +153,16 @@ small_decided segs placed table fits =
 
 -- no term is of two picks
 none_twice : (e a b c x p q r : Bool)
-    → (((e && a) && (same_answer x false && p)) && (((e && b) && (same_answer x true && q)) || ((e && c) && (same_answer x true && (r && not b))))) ≡ false
+    → (((e && (beq x false && a)) && p) && (((e && (beq x true && b)) && q) || ((e && (beq x true && c)) && (r && not b)))) ≡ false
 none_twice false a b c x p q r = refl
-none_twice true false b c x p q r = refl
-none_twice true true b c true p q r = refl
-none_twice true true b c false p q r = ap (λ t. (p && (t || (c && false)))) (and-false b) ∙ ap (λ t. p && t) (and-false c) ∙ and-false p
+none_twice true a b c true p q r = refl
+none_twice true a b c false p q r = and-false (a && p)
 
-last_or_left : (e b c x q r : Bool) → (((e && b) && (same_answer x true && q)) && ((e && c) && (same_answer x true && (r && not b)))) ≡ false
+last_or_left : (e b c x q r : Bool) → (((e && (beq x true && b)) && q) && ((e && (beq x true && c)) && (r && not b))) ≡ false
 last_or_left false b c x q r = refl
-last_or_left true false c x q r = refl
-last_or_left true true c false q r = refl
-last_or_left true true false true q r = and-false q
-last_or_left true true true true q r = ap (λ t. q && t) (and-false r) ∙ and-false q
+last_or_left true b c false q r = refl
+last_or_left true false c true q r = refl
+last_or_left true true c true q r = ap (λ t. q && (c && t)) (and-false r) ∙ ap (λ t. q && t) (and-false c) ∙ and-false q
 
 of_either : (g : Bool → ℤ) → g false ≡ pos 0 → (b c : Bool) → (b && c) ≡ false → g (b || c) ≡ g b +ℤ g c
 of_either g none true true h = absurd (true≢false h)
@@ -261,15 +259,15 @@ left_none p lines placed [] same = refl
 left_none p lines placed (t ∷ table) same =
     ap (λ b. cond b (t ∷ picked_terms (left_pick p) lines placed table) (picked_terms (left_pick p) lines placed table)) none ∙ left_none p lines placed table same
   where
-    by_test : (e b x r : Bool) → ((e && b) && (same_answer x true && (r && not b))) ≡ false
+    by_test : (e b x r : Bool) → ((e && (beq x true && b)) && (r && not b)) ≡ false
     by_test false b x r = refl
-    by_test true false x r = refl
-    by_test true true false r = refl
+    by_test true b false r = refl
+    by_test true false true r = refl
     by_test true true true r = and-false r
 
     none : is_picked_at (left_pick p) lines placed t.term ≡ false
     none =
-        ap (λ (l : LineId). (is_on p.seg.0 t.term && is_of_line l t.term) && (same_answer (is_apart t.term) true && (is_left lines placed (beside_line p.left t.term) && not (is_of_line p.last t.term))))
+        ap (λ (l : LineId). (is_on p.seg.0 t.term && (beq (is_apart t.term) true && is_of_line l t.term)) && (is_left lines placed (beside_line p.left t.term) && not (is_of_line p.last t.term)))
         (line_is p.left p.last same)
         ∙ by_test (is_on p.seg.0 t.term) (is_of_line p.last t.term) (is_apart t.term) (is_left lines placed (beside_line p.left t.term))
 

@@ -1,4 +1,5 @@
 -- Lists of terms by spots.
+use mathlib.Core.Bool.{beq}
 use Rattle.std.proofs.Common.{◌≡◌, ◌≢◌, ℕ, zero, suc, ◌+◌, ◌<◌, ◌≤◌, ◌==◌, ◌&&◌, ◌||◌, not, Bool, true, false, cond, List, [], ◌∷◌, ◌++◌, length, set, get_or, append-nil, refl, sym, ◌∙◌, ap, arith, Option, Some, None, true≢false, eqb-true, eq-eqb}
 use Rattle.std.specs.Prelude.{nat_lt, position}
 use Rattle.std.specs.List.{list_any, filter, position_or_len}
@@ -25,11 +26,19 @@ one_more n = omega arith
 
 -- Spots that are the same.
 
+same_kind : (x y : Bool) → beq x y ≡ true → x ≡ y
+same_kind true true e = refl
+same_kind true false e = sym e
+same_kind false true e = e
+same_kind false false e = refl
+
 same_spot : (u v : Spot) → is_spot u v ≡ true → u ≡ v
 same_spot u v h =
-    let both = and_parts (u.seg.0 == v.seg.0) (u.line.0 == v.line.0) h in
-    ap (λ n. let s : Spot = record { seg = record { 0 = n }; line = u.line } in s) (eqb-true u.seg.0 v.seg.0 both.0)
-    ∙ ap (λ n. let s : Spot = record { seg = v.seg; line = record { 0 = n } } in s) (eqb-true u.line.0 v.line.0 both.1)
+    let both = and_parts (u.seg.0 == v.seg.0) (beq u.apart v.apart && (u.line.0 == v.line.0)) h in
+    let more = and_parts (beq u.apart v.apart) (u.line.0 == v.line.0) both.1 in
+    ap (λ n. let s : Spot = record { seg = record { 0 = n }; apart = u.apart; line = u.line } in s) (eqb-true u.seg.0 v.seg.0 both.0)
+    ∙ ap (λ b. let s : Spot = record { seg = v.seg; apart = b; line = u.line } in s) (same_kind u.apart v.apart more.0)
+    ∙ ap (λ n. let s : Spot = record { seg = v.seg; apart = v.apart; line = record { 0 = n } } in s) (eqb-true u.line.0 v.line.0 more.1)
 
 eqb_turned : (a b : ℕ) → (a == b) ≡ (b == a)
 eqb_turned a b = by_test (a == b) refl
@@ -38,8 +47,17 @@ eqb_turned a b = by_test (a == b) refl
     by_test true e = sym (eq-eqb b a (sym (eqb-true a b e)))
     by_test false e = sym (ne_eqb b a (λ h. eqb-false a b e (sym h)))
 
+kind_turned : (x y : Bool) → beq x y ≡ beq y x
+kind_turned true true = refl
+kind_turned true false = refl
+kind_turned false true = refl
+kind_turned false false = refl
+
 spot_turned : (u v : Spot) → is_spot u v ≡ is_spot v u
-spot_turned u v = ap (λ b. b && (u.line.0 == v.line.0)) (eqb_turned u.seg.0 v.seg.0) ∙ ap (λ b. (v.seg.0 == u.seg.0) && b) (eqb_turned u.line.0 v.line.0)
+spot_turned u v =
+    ap (λ b. b && (beq u.apart v.apart && (u.line.0 == v.line.0))) (eqb_turned u.seg.0 v.seg.0)
+    ∙ ap (λ b. (v.seg.0 == u.seg.0) && (b && (u.line.0 == v.line.0))) (kind_turned u.apart v.apart)
+    ∙ ap (λ b. (v.seg.0 == u.seg.0) && (beq v.apart u.apart && b)) (eqb_turned u.line.0 v.line.0)
 
 -- The list of a spot.
 
@@ -170,14 +188,15 @@ not_both a b c differ = by_test (a == c) refl
     by_test false e = refl
     by_test true e = ne_eqb b c (λ h. differ (eqb-true a c e ∙ sym h))
 
-pub on_two_lines : (seg : SegId) (a b : LineId) (t : PartTerm) (u : Spot) (old : List PartTerm) → a.0 ≢ b.0
-    → (old ++ cond ((seg.0 == u.seg.0) && (a.0 == u.line.0)) (t ∷ []) []) ++ cond ((seg.0 == u.seg.0) && (b.0 == u.line.0)) (t ∷ []) []
-    ≡ old ++ cond ((seg.0 == u.seg.0) && is_either a b u.line) (t ∷ []) []
-on_two_lines seg a b t u old differ = by_test (seg.0 == u.seg.0)
+pub on_two_lines : (seg : SegId) (apart : Bool) (a b : LineId) (t : PartTerm) (u : Spot) (old : List PartTerm) → a.0 ≢ b.0
+    → (old ++ cond ((seg.0 == u.seg.0) && (beq apart u.apart && (a.0 == u.line.0))) (t ∷ []) []) ++ cond ((seg.0 == u.seg.0) && (beq apart u.apart && (b.0 == u.line.0))) (t ∷ []) []
+    ≡ old ++ cond ((seg.0 == u.seg.0) && (beq apart u.apart && is_either a b u.line)) (t ∷ []) []
+on_two_lines seg apart a b t u old differ = by_test (seg.0 == u.seg.0) (beq apart u.apart)
   where
-    by_test : (c : Bool) → (old ++ cond (c && (a.0 == u.line.0)) (t ∷ []) []) ++ cond (c && (b.0 == u.line.0)) (t ∷ []) [] ≡ old ++ cond (c && is_either a b u.line) (t ∷ []) []
-    by_test true = joined old t (a.0 == u.line.0) (b.0 == u.line.0) (not_both a.0 b.0 u.line.0 differ)
-    by_test false = joined old t false false refl
+    by_test : (c d : Bool) → (old ++ cond (c && (d && (a.0 == u.line.0))) (t ∷ []) []) ++ cond (c && (d && (b.0 == u.line.0))) (t ∷ []) [] ≡ old ++ cond (c && (d && is_either a b u.line)) (t ∷ []) []
+    by_test true true = joined old t (a.0 == u.line.0) (b.0 == u.line.0) (not_both a.0 b.0 u.line.0 differ)
+    by_test true false = joined old t false false refl
+    by_test false d = joined old t false false refl
 
 pub on_two_segments : (seg other : SegId) (e : Bool) (t : PartTerm) (u : Spot) (old : List PartTerm) → seg.0 ≢ other.0
     → (old ++ cond ((seg.0 == u.seg.0) && e) (t ∷ []) []) ++ cond ((other.0 == u.seg.0) && e) (t ∷ []) []
@@ -200,10 +219,10 @@ on_two_segments seg other e t u old apart =
     by_either false y z = refl
 
 -- the only segment of a Side
-pub side_at : (seg : SegId) (first second : LineId) (w : ℕ) (u : Spot) → ((seg.0 == u.seg.0) && is_either first second u.line) ≡ is_at u (Side seg first second w)
+pub side_at : (seg : SegId) (first second : LineId) (w : ℕ) (u : Spot) → ((seg.0 == u.seg.0) && (beq false u.apart && is_either first second u.line)) ≡ is_at u (Side seg first second w)
 side_at seg first second w u = by_test (seg.0 == u.seg.0)
   where
-    by_test : (b : Bool) → (b && is_either first second u.line) ≡ ((b || b) && is_either first second u.line)
+    by_test : (b : Bool) → (b && (beq false u.apart && is_either first second u.line)) ≡ ((b || b) && (beq false u.apart && is_either first second u.line))
     by_test true = refl
     by_test false = refl
 

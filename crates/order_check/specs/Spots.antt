@@ -1,4 +1,5 @@
--- The terms of a part by segment and line.
+-- The terms of a part by segment, kind and line.
+use mathlib.Core.Bool.{beq}
 use Rattle.std.specs.Prelude.{◌≡◌, ◌≢◌, ℕ, zero, suc, ◌==◌, Bool, true, false, ◌&&◌, ◌||◌, List, [], ◌∷◌, ◌++◌, length, map, filter, if◌then◌else◌, Vec}
 use Rattle.std.specs.Global.{Global}
 use Rattle.map_base.specs.declared.ids.LineId.{LineId}
@@ -28,13 +29,13 @@ is_apart (Side seg first second w) = false
 is_apart (Link seg other flip a b w) = false
 is_apart (Apart seg other a b w) = true
 
--- the term is at the spot: on its segment, and of its line
+-- the term is at the spot: on its segment, of its kind, and of its line
 abbrev pub is_at : Spot → Term → Bool
-is_at u t = is_on u.seg.0 t && is_of_line u.line t
+is_at u t = is_on u.seg.0 t && (beq (is_apart t) u.apart && is_of_line u.line t)
 
 -- two spots are the same
 abbrev pub is_spot : Spot → Spot → Bool
-is_spot u v = (u.seg.0 == v.seg.0) && (u.line.0 == v.line.0)
+is_spot u v = (u.seg.0 == v.seg.0) && (beq u.apart v.apart && (u.line.0 == v.line.0))
 
 -- the lines of a term are two, and so are its segments, but a Side's
 abbrev pub AreTwo : Term → Type 0

@@ -5,7 +5,7 @@ ghost use Rattle.order_model.specs.Problems.{lines_on};
 ghost use Rattle.order_model.specs.Prefixes.{IsPrefixOf};
 ghost use Rattle.order_check.specs.declared.slot.PartTerm.{PartTerm};
 ghost use Rattle.order_check.specs.Asking.{IsAsked};
-ghost use Rattle.order_check.specs.Spots.{is_apart, is_of_line};
+ghost use Rattle.order_check.specs.Spots.{is_of_line};
 ghost use Rattle.order_check.specs.Placings.{other_than, beside_line, is_of_any, is_picked, is_picked_at, own_pick, last_pick, left_pick, changed_terms};
 
 use crate::asked::Asked;
@@ -16,14 +16,12 @@ use map_base::{LineId, NoMemory};
 use order_model::{Prefix, Problem, Term};
 use std::alloc::Global;
 
-/// Which terms are picked of those at a spot: the Aparts there, or else the others, whose other line is left; but none
-/// of a line whose terms were picked before.
+/// Which terms are picked of those at a spot: those whose other line is left; but none of a line whose terms were picked
+/// before.
 #[derive(Clone, Copy, Debug)]
 pub(crate) struct Pick {
-    /// The segment and the line.
+    /// The spot.
     pub(crate) spot: Spot,
-    /// Whether Aparts are picked.
-    pub(crate) apart: bool,
     /// The line whose terms are not picked, if there is one.
     pub(crate) but: Option<LineId>,
 }
@@ -60,9 +58,9 @@ fn own_pick(placing: Placing) -> Pick
     Pick {
         spot: Spot {
             seg: placing.seg,
+            apart: false,
             line: placing.line,
         },
-        apart: false,
         but: None,
     }
 }
@@ -74,9 +72,9 @@ fn last_pick(placing: Placing) -> Pick
     Pick {
         spot: Spot {
             seg: placing.seg,
+            apart: true,
             line: placing.last,
         },
-        apart: true,
         but: None,
     }
 }
@@ -88,9 +86,9 @@ fn left_pick(placing: Placing) -> Pick
     Pick {
         spot: Spot {
             seg: placing.seg,
+            apart: true,
             line: placing.left,
         },
-        apart: true,
         but: Some(placing.last),
     }
 }
@@ -163,23 +161,10 @@ fn is_picked(problem: &Problem, prefix: &Prefix, pick: Pick, term: Term) -> bool
     requires seg { pick.spot.seg.0 < length problem.now.segs }
     ensures { result ≡ is_picked pick (lines_on problem.now.segs pick.spot.seg) (lines_on prefix.now.placed pick.spot.seg) term }
 {
-    if is_apart(term) != pick.apart {
-        return false;
-    }
     if !prefix.is_left(problem, pick.spot.seg, beside_line(pick.spot.line, term)) {
         return false;
     }
     !is_of_any(pick.but, term)
-}
-
-/// Whether a term is an Apart.
-fn is_apart(term: Term) -> bool
-    ensures { result ≡ is_apart term }
-{
-    match term {
-        Term::Apart { .. } => true,
-        Term::Side { .. } | Term::Link { .. } => false,
-    }
 }
 
 /// The other line of a term that has this one.

@@ -1,5 +1,6 @@
-//! The terms of a part by segment and line.
+//! The terms of a part by segment, kind and line.
 
+ghost use mathlib.Core.Bool.{beq};
 ghost use Rattle.std.specs.Prelude.{◌≡◌, ◌≢◌, ◌<◌, ◌≤◌, ◌==◌, ◌&&◌, ◌||◌, ◌++◌, [], ◌∷◌, length, IfSome, OnOk, Option, position, if◌then◌else◌};
 ghost use Rattle.order_check.specs.declared.spot.Spot.{Spot};
 ghost use Rattle.order_check.specs.Spots.{is_at, is_either, is_spot, listed, term_lists, with_term, AreTwo, IsSpotTable};
@@ -10,16 +11,19 @@ use map_base::{LineId, NoMemory, SegId};
 use order_model::Term;
 use std::alloc::Global;
 
-/// A line on a segment.
+/// A line on a segment, with the Aparts there, or with the other terms.
 #[derive(Clone, Copy, Debug, PartialEq, Eq, Hash)]
 pub(crate) struct Spot {
     /// The segment.
     pub(crate) seg: SegId,
+    /// Whether its terms are Aparts.
+    pub(crate) apart: bool,
     /// The line.
     pub(crate) line: LineId,
 }
 
-/// The terms at each spot, on its segment and of its line, in their order. A spot where there is none isn't listed.
+/// The terms at each spot, on its segment, of its kind and of its line, in their order. A spot where there is none isn't
+/// listed.
 #[derive(Drop)]
 pub(crate) struct SpotTable {
     /// The spots.
@@ -61,7 +65,7 @@ pub(crate) fn list_term(alloc: Global, table: &mut SpotTable, t: PartTerm) -> Re
             second,
             ..
         } => {
-            list_on(alloc, table, seg, first, second, t)?;
+            list_on(alloc, table, seg, false, first, second, t)?;
             Ok(())
         }
         Term::Link {
@@ -70,15 +74,18 @@ pub(crate) fn list_term(alloc: Global, table: &mut SpotTable, t: PartTerm) -> Re
             a,
             b,
             ..
+        } => {
+            list_on_both(alloc, table, seg, other, false, a, b, t)?;
+            Ok(())
         }
-        | Term::Apart {
+        Term::Apart {
             seg,
             other,
             a,
             b,
             ..
         } => {
-            list_on_both(alloc, table, seg, other, a, b, t)?;
+            list_on_both(alloc, table, seg, other, true, a, b, t)?;
             Ok(())
         }
     }
@@ -90,20 +97,21 @@ fn list_on_both(
     table: &mut SpotTable,
     seg: SegId,
     other: SegId,
+    apart: bool,
     a: LineId,
     b: LineId,
     t: PartTerm,
 ) -> Result<(), NoMemory>
     requires each { length table.old.lists.items ≡ length table.old.spots.keys }
     requires differ { a.0 ≢ b.0 }
-    requires apart { seg.0 ≢ other.0 }
+    requires two { seg.0 ≢ other.0 }
     ensures each { OnOk result (length table.new.lists.items ≡ length table.new.spots.keys) }
     ensures listed { OnOk result ((u : Spot) → listed table.new.spots.keys (term_lists table.new.lists.items) u
         ≡ listed table.old.spots.keys (term_lists table.old.lists.items) u
-        ++ (if (seg.0 == u.seg.0 || other.0 == u.seg.0) && is_either a b u.line then t ∷ [] else [])) }
+        ++ (if (seg.0 == u.seg.0 || other.0 == u.seg.0) && (beq apart u.apart && is_either a b u.line) then t ∷ [] else [])) }
 {
-    list_on(alloc, table, seg, a, b, t)?;
-    list_on(alloc, table, other, a, b, t)?;
+    list_on(alloc, table, seg, apart, a, b, t)?;
+    list_on(alloc, table, other, apart, a, b, t)?;
     Ok(())
 }
 
@@ -112,6 +120,7 @@ fn list_on(
     alloc: Global,
     table: &mut SpotTable,
     seg: SegId,
+    apart: bool,
     a: LineId,
     b: LineId,
     t: PartTerm,
@@ -121,10 +130,28 @@ fn list_on(
     ensures each { OnOk result (length table.new.lists.items ≡ length table.new.spots.keys) }
     ensures listed { OnOk result ((u : Spot) → listed table.new.spots.keys (term_lists table.new.lists.items) u
         ≡ listed table.old.spots.keys (term_lists table.old.lists.items) u
-        ++ (if seg.0 == u.seg.0 && is_either a b u.line then t ∷ [] else [])) }
+        ++ (if seg.0 == u.seg.0 && (beq apart u.apart && is_either a b u.line) then t ∷ [] else [])) }
 {
-    list_at(alloc, table, Spot { seg, line: a }, t)?;
-    list_at(alloc, table, Spot { seg, line: b }, t)?;
+    list_at(
+        alloc,
+        table,
+        Spot {
+            seg,
+            apart,
+            line: a,
+        },
+        t,
+    )?;
+    list_at(
+        alloc,
+        table,
+        Spot {
+            seg,
+            apart,
+            line: b,
+        },
+        t,
+    )?;
     Ok(())
 }
 

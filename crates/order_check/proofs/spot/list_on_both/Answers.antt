@@ -1,3 +1,4 @@
+use mathlib.Core.Bool.{beq}
 use Rattle.std.proofs.Common.{◌∙◌, ◌++◌, ◌==◌, ◌&&◌, cond, ◌∷◌, [], Bool, ap}
 use Rattle.order_check.specs.Spots.{is_either, listed, term_lists}
 use Rattle.order_check.proofs.SpotLists.{on_two_segments}
@@ -5,6 +6,6 @@ use Rattle.order_check.proofs.spot.list_on_both.Goals as goal
 
 pub returns-clause-listed : goal.returns-clause-listed
 returns-clause-listed c = λ u.
-    (let e : Bool = is_either c.args.a c.args.b u.line in
+    (let e : Bool = beq c.args.apart u.apart && is_either c.args.a c.args.b u.line in
     c.in_ok-list_on-2.ensures.listed u ∙ ap (λ l. l ++ cond ((c.args.other.0 == u.seg.0) && e) (c.args.t ∷ []) []) (c.in_ok-list_on.ensures.listed u)
-    ∙ on_two_segments c.args.seg c.args.other e c.args.t u (listed c.args.table.now.spots.keys (term_lists c.args.table.now.lists.items) u) c.requires.apart)
+    ∙ on_two_segments c.args.seg c.args.other e c.args.t u (listed c.args.table.now.spots.keys (term_lists c.args.table.now.lists.items) u) c.requires.two)
