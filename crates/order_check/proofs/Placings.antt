@@ -22,8 +22,8 @@ use Rattle.order_model.proofs.PrefixLemmas.{contains_placed, few_apart, apart_pu
 use Rattle.order_bound.specs.Decided.{apart_cost}
 use Rattle.order_bound.proofs.Completing.{on_placed}
 use Rattle.order_check.specs.Charges.{decided_charges, one_charge, looked, link_charges, charges_by}
-use Rattle.order_check.specs.Spots.{is_on, is_either, is_of_line, is_apart}
-use Rattle.order_check.specs.Placings.{last_or, other_left, left_or, placing_of, other_than, is_picked, own_pick, last_pick, left_pick, changes}
+use Rattle.order_check.specs.Spots.{is_on, is_either, is_of_line, is_apart, other_than}
+use Rattle.order_check.specs.Placings.{last_or, other_left, left_or, placing_of, is_picked, own_pick, last_pick, left_pick, changes}
 
 -- More lines are placed behind the others.
 

@@ -1,16 +1,17 @@
 -- The terms that a placing may change.
-use Rattle.std.specs.Prelude.{◌+◌, ◌-◌, ◌==◌, nat_le, Bool, true, false, ◌&&◌, ◌||◌, not, List, [], ◌∷◌, ◌++◌, length, find, filter, Option, Some, None, unwrap_or, slice_index_or, if◌then◌else◌}
+use Rattle.std.specs.Prelude.{◌+◌, ◌-◌, nat_le, Bool, true, false, ◌&&◌, ◌||◌, not, List, [], ◌∷◌, ◌++◌, length, find, filter, Option, Some, None, unwrap_or, slice_index_or, if◌then◌else◌}
 use Rattle.map_base.specs.declared.ids.SegId.{SegId}
 use Rattle.map_base.specs.declared.ids.LineId.{LineId}
 use Rattle.order_model.specs.declared.term.Term.{Term}
-use Rattle.order_model.specs.declared.term.Term.TheVariants.{Side, Link, Apart}
 use Rattle.order_model.specs.Problems.{lines_on}
 use Rattle.order_model.specs.Prefixes.{is_unplaced, is_left}
 use Rattle.order_check.specs.declared.slot.PartTerm.{PartTerm}
 use Rattle.order_check.specs.declared.placing.Placing.{Placing}
 use Rattle.order_check.specs.declared.picking.Pick.{Pick}
 use Rattle.order_check.specs.declared.spot.Spot.{Spot}
-use Rattle.order_check.specs.Spots.{is_of_line, is_at}
+use Rattle.order_check.specs.declared.spot.SpotTerm.{SpotTerm}
+use Rattle.order_check.specs.Charging.{no_part_term}
+use Rattle.order_check.specs.Spots.{is_of_line, is_at, beside_line}
 
 -- the last of these lines, or another where there is none
 abbrev pub last_or : List LineId → LineId → LineId
@@ -37,16 +38,6 @@ placing_of segs placed s a = record {
 abbrev pub spot_on : Placing → Bool → LineId → Spot
 spot_on p apart a = record { seg = p.seg; apart = apart; line = a }
 
--- of two lines the other one than this
-abbrev pub other_than : LineId → LineId → LineId → LineId
-other_than a b line = if a.0 == line.0 then b else a
-
--- the other line of a term that has this one
-abbrev pub beside_line : LineId → Term → LineId
-beside_line line (Side seg first second w) = other_than first second line
-beside_line line (Link seg other flip a b w) = other_than a b line
-beside_line line (Apart seg other a b w) = other_than a b line
-
 -- the term has the line, if there is one
 abbrev pub is_of_any : Option LineId → Term → Bool
 is_of_any None t = false
@@ -56,6 +47,15 @@ is_of_any (Some line) t = is_of_line line t
 -- not of the line that is left out
 abbrev pub is_picked : Pick → List LineId → List LineId → Term → Bool
 is_picked c lines placed t = is_left lines placed (beside_line c.spot.line t) && not (is_of_any c.but t)
+
+-- the same of a term at the spot by its place, as a list of one or none; and of some
+abbrev pub picked_one : Pick → List LineId → List LineId → List PartTerm → SpotTerm → List PartTerm
+picked_one c lines placed terms t =
+    let own : PartTerm = slice_index_or terms t.place no_part_term in if is_left lines placed t.other && not (is_of_any c.but own.term) then own ∷ [] else []
+
+abbrev pub picked_of : Pick → List LineId → List LineId → List PartTerm → List SpotTerm → List PartTerm
+picked_of c lines placed terms [] = []
+picked_of c lines placed terms (t ∷ some) = picked_one c lines placed terms t ++ picked_of c lines placed terms some
 
 -- the same of all terms of a part
 abbrev pub is_picked_at : Pick → List LineId → List LineId → Term → Bool

@@ -1,17 +1,18 @@
 //! The terms that a placing may change, picked from those of its lines.
 
-ghost use Rattle.std.specs.Prelude.{◌≡◌, ◌<◌, ◌++◌, [], ◌∷◌, length, filter, IfOk, OnOk, if◌then◌else◌};
+ghost use Rattle.std.specs.Prelude.{◌≡◌, ◌<◌, ◌++◌, length, filter, All, IfOk, OnOk};
 ghost use Rattle.order_model.specs.Problems.{lines_on};
 ghost use Rattle.order_model.specs.Prefixes.{IsPrefixOf};
 ghost use Rattle.order_check.specs.declared.slot.PartTerm.{PartTerm};
+ghost use Rattle.order_check.specs.declared.spot.SpotTerm.{SpotTerm};
 ghost use Rattle.order_check.specs.Asking.{IsAsked};
 ghost use Rattle.order_check.specs.Spots.{is_of_line};
-ghost use Rattle.order_check.specs.Placings.{other_than, beside_line, is_of_any, is_picked, is_picked_at, own_pick, last_pick, left_pick, changed_terms};
+ghost use Rattle.order_check.specs.Placings.{is_of_any, is_picked_at, picked_of, picked_one, own_pick, last_pick, left_pick, changed_terms};
 
 use crate::asked::Asked;
 use crate::placing::Placing;
 use crate::slot::PartTerm;
-use crate::spot::{Spot, place_of};
+use crate::spot::{Spot, SpotTerm, place_of};
 use map_base::{LineId, NoMemory};
 use order_model::{Prefix, Problem, Term};
 use std::alloc::Global;
@@ -107,11 +108,12 @@ fn add_terms(
         (lines_on asked.now.problem.now.segs pick.spot.seg) (lines_on prefix.now.placed pick.spot.seg) t.term) asked.now.table.now.terms.items) }
 {
     let table = &asked.table.spots;
+    let terms = asked.table.terms.as_slice();
     match place_of(table, pick.spot) {
         None => Ok(()),
         Some(k) => {
-            let terms = table.lists[k].as_slice();
-            add_picked(asked.problem, prefix, pick, terms, list)?;
+            let some = table.lists[k].as_slice();
+            add_picked(asked.problem, prefix, pick, terms, some, list)?;
             Ok(())
         }
     }
@@ -123,65 +125,45 @@ fn add_picked(
     prefix: &Prefix,
     pick: Pick,
     terms: &[PartTerm],
+    some: &[SpotTerm],
     list: &mut Vec<PartTerm>,
 ) -> Result<(), NoMemory>
     requires fits { IsPrefixOf problem.now.segs prefix.now }
     requires seg { pick.spot.seg.0 < length problem.now.segs }
-    ensures { OnOk result (list.new.items ≡ list.old.items ++ filter (λ (t : PartTerm). is_picked pick
-        (lines_on problem.now.segs pick.spot.seg) (lines_on prefix.now.placed pick.spot.seg) t.term) terms.now) }
+    requires within { All (λ (t : SpotTerm). t.place < length terms.now) some.now }
+    ensures { OnOk result (list.new.items ≡ list.old.items ++ picked_of pick (lines_on problem.now.segs pick.spot.seg)
+        (lines_on prefix.now.placed pick.spot.seg) terms.now some.now) }
 {
-    for i in 0..terms.len() {
-        add_if_picked(problem, prefix, pick, terms[i], list)?;
+    for i in 0..some.len() {
+        add_if_picked(problem, prefix, pick, terms, some[i], list)?;
     }
     Ok(())
 }
 
-/// Adds a term if it is picked.
+/// Adds a term at its spot if it is picked.
 fn add_if_picked(
     problem: &Problem,
     prefix: &Prefix,
     pick: Pick,
-    t: PartTerm,
+    terms: &[PartTerm],
+    t: SpotTerm,
     list: &mut Vec<PartTerm>,
 ) -> Result<(), NoMemory>
     requires fits { IsPrefixOf problem.now.segs prefix.now }
     requires seg { pick.spot.seg.0 < length problem.now.segs }
-    ensures { OnOk result (list.new.items ≡ list.old.items ++ (if is_picked pick (lines_on problem.now.segs pick.spot.seg)
-        (lines_on prefix.now.placed pick.spot.seg) t.term then t ∷ [] else [])) }
+    requires within { t.place < length terms.now }
+    ensures { OnOk result (list.new.items ≡ list.old.items ++ picked_one pick (lines_on problem.now.segs pick.spot.seg)
+        (lines_on prefix.now.placed pick.spot.seg) terms.now t) }
 {
-    if is_picked(problem, prefix, pick, t.term) {
-        list.push(t)?;
+    if !prefix.is_left(problem, pick.spot.seg, t.other) {
+        return Ok(());
     }
+    let own = terms[t.place as usize];
+    if is_of_any(pick.but, own.term) {
+        return Ok(());
+    }
+    list.push(own)?;
     Ok(())
-}
-
-/// Whether a term at its spot is picked.
-fn is_picked(problem: &Problem, prefix: &Prefix, pick: Pick, term: Term) -> bool
-    requires fits { IsPrefixOf problem.now.segs prefix.now }
-    requires seg { pick.spot.seg.0 < length problem.now.segs }
-    ensures { result ≡ is_picked pick (lines_on problem.now.segs pick.spot.seg) (lines_on prefix.now.placed pick.spot.seg) term }
-{
-    if !prefix.is_left(problem, pick.spot.seg, beside_line(pick.spot.line, term)) {
-        return false;
-    }
-    !is_of_any(pick.but, term)
-}
-
-/// The other line of a term that has this one.
-fn beside_line(line: LineId, term: Term) -> LineId
-    ensures { result ≡ beside_line line term }
-{
-    match term {
-        Term::Side { first, second, .. } => other_than(first, second, line),
-        Term::Link { a, b, .. } | Term::Apart { a, b, .. } => other_than(a, b, line),
-    }
-}
-
-/// Of two lines the other one than this.
-fn other_than(a: LineId, b: LineId, line: LineId) -> LineId
-    ensures { result ≡ other_than a b line }
-{
-    if a.0 == line.0 { b } else { a }
 }
 
 /// Whether a term has a line, if there is one.
