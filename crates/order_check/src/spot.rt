@@ -169,12 +169,7 @@ fn list_on(
 }
 
 /// Lists a term at a spot.
-fn list_at(
-    alloc: Global,
-    table: &mut SpotTable,
-    spot: Spot,
-    t: SpotTerm,
-) -> Result<(), NoMemory>
+fn list_at(alloc: Global, table: &mut SpotTable, spot: Spot, t: SpotTerm) -> Result<(), NoMemory>
     requires each { length table.old.lists.items ≡ length table.old.spots.keys }
     ensures each { OnOk result (length table.new.lists.items ≡ length table.new.spots.keys) }
     ensures listed { OnOk result ((u : Spot) → listed table.new.spots.keys (term_lists table.new.lists.items) u
