@@ -26,7 +26,7 @@ use Rattle.order_check.specs.declared.asked.Asked.{Asked}
 use Rattle.order_check.specs.Slots.{plain_term, charge_on}
 use Rattle.order_check.specs.Charging.{no_part_term, AreTerms}
 use Rattle.order_check.specs.Spots.{is_on, is_of_line, is_at, is_apart, beside_line, spot_term, terms_at}
-use Rattle.order_check.specs.Placings.{is_of_any, is_picked, is_picked_at, picked_of, picked_one, own_pick, last_pick, left_pick, changes, picked_terms, changed_terms}
+use Rattle.order_check.specs.Placings.{is_of_any, is_picked, is_picked_at, is_picked_of, picked_of, term_of, own_pick, last_pick, left_pick, changes, picked_terms, changed_terms}
 use Rattle.order_check.specs.Counting.{added_by, decided_of, shifted, turned, AreThose}
 use Rattle.order_check.proofs.SignedSums.{abs_sum, sum_more}
 use Rattle.order_check.proofs.Charging.{small_charges, decided_is}
@@ -297,15 +297,15 @@ picked_append : (c : Pick) (lines placed : List LineId) (terms : List PartTerm) 
     → picked_of c lines placed terms (xs ++ ys) ≡ picked_of c lines placed terms xs ++ picked_of c lines placed terms ys
 picked_append c lines placed terms [] ys = refl
 picked_append c lines placed terms (x ∷ xs) ys =
-    ap (λ l. picked_one c lines placed terms x ++ l) (picked_append c lines placed terms xs ys)
-    ∙ sym (append_assoc (picked_one c lines placed terms x) (picked_of c lines placed terms xs) (picked_of c lines placed terms ys))
+    let own : List PartTerm = cond (is_picked_of c lines placed terms x) (term_of terms x ∷ []) [] in
+    ap (λ l. own ++ l) (picked_append c lines placed terms xs ys) ∙ sym (append_assoc own (picked_of c lines placed terms xs) (picked_of c lines placed terms ys))
 
 pub picked_more : (c : Pick) (lines placed : List LineId) (terms : List PartTerm) (some : List SpotTerm) (t : SpotTerm) (old list more : List PartTerm) (i : ℕ) → i < length some
-    → t ≡ get_or some i t → list ≡ old ++ picked_of c lines placed terms (take i some) → more ≡ list ++ picked_one c lines placed terms t
+    → t ≡ get_or some i t → list ≡ old ++ picked_of c lines placed terms (take i some) → more ≡ list ++ cond (is_picked_of c lines placed terms t) (term_of terms t ∷ []) []
     → more ≡ old ++ picked_of c lines placed terms (take (i + 1) some)
 picked_more c lines placed terms some t old list more i below is before pushed =
     let first : List PartTerm = picked_of c lines placed terms (take i some) in
-    let next : List PartTerm = picked_one c lines placed terms t in
+    let next : List PartTerm = cond (is_picked_of c lines placed terms t) (term_of terms t ∷ []) [] in
     pushed ∙ ap (λ l. l ++ next) before ∙ append_assoc old first next
     ∙ ap (λ l. old ++ l)
     (sym (ap (picked_of c lines placed terms) (take_more some i t below ∙ ap (λ (x : SpotTerm). take i some ++ x ∷ []) (sym is)) ∙ picked_append c lines placed terms (take i some) (t ∷ []) ∙ ap (λ l. first ++ l) (append-nil next)))

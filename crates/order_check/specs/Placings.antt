@@ -48,14 +48,17 @@ is_of_any (Some line) t = is_of_line line t
 abbrev pub is_picked : Pick → List LineId → List LineId → Term → Bool
 is_picked c lines placed t = is_left lines placed (beside_line c.spot.line t) && not (is_of_any c.but t)
 
--- the same of a term at the spot by its place, as a list of one or none; and of some
-abbrev pub picked_one : Pick → List LineId → List LineId → List PartTerm → SpotTerm → List PartTerm
-picked_one c lines placed terms t =
-    let own : PartTerm = slice_index_or terms t.place no_part_term in if is_left lines placed t.other && not (is_of_any c.but own.term) then own ∷ [] else []
+-- the same of a term there by its place among these
+abbrev pub term_of : List PartTerm → SpotTerm → PartTerm
+term_of terms t = slice_index_or terms t.place no_part_term
 
+abbrev pub is_picked_of : Pick → List LineId → List LineId → List PartTerm → SpotTerm → Bool
+is_picked_of c lines placed terms t = is_left lines placed t.other && not (is_of_any c.but (term_of terms t).term)
+
+-- what a pick picks of the terms there
 abbrev pub picked_of : Pick → List LineId → List LineId → List PartTerm → List SpotTerm → List PartTerm
 picked_of c lines placed terms [] = []
-picked_of c lines placed terms (t ∷ some) = picked_one c lines placed terms t ++ picked_of c lines placed terms some
+picked_of c lines placed terms (t ∷ some) = (if is_picked_of c lines placed terms t then term_of terms t ∷ [] else []) ++ picked_of c lines placed terms some
 
 -- the same of all terms of a part
 abbrev pub is_picked_at : Pick → List LineId → List LineId → Term → Bool

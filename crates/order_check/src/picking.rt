@@ -1,13 +1,13 @@
 //! The terms that a placing may change, picked from those of its lines.
 
-ghost use Rattle.std.specs.Prelude.{◌≡◌, ◌<◌, ◌++◌, length, filter, All, IfOk, OnOk};
+ghost use Rattle.std.specs.Prelude.{◌≡◌, ◌<◌, ◌++◌, [], ◌∷◌, length, filter, All, IfOk, OnOk, if◌then◌else◌};
 ghost use Rattle.order_model.specs.Problems.{lines_on};
 ghost use Rattle.order_model.specs.Prefixes.{IsPrefixOf};
 ghost use Rattle.order_check.specs.declared.slot.PartTerm.{PartTerm};
 ghost use Rattle.order_check.specs.declared.spot.SpotTerm.{SpotTerm};
 ghost use Rattle.order_check.specs.Asking.{IsAsked};
 ghost use Rattle.order_check.specs.Spots.{is_of_line};
-ghost use Rattle.order_check.specs.Placings.{is_of_any, is_picked_at, picked_of, picked_one, own_pick, last_pick, left_pick, changed_terms};
+ghost use Rattle.order_check.specs.Placings.{is_of_any, is_picked_at, is_picked_of, picked_of, term_of, own_pick, last_pick, left_pick, changed_terms};
 
 use crate::asked::Asked;
 use crate::placing::Placing;
@@ -152,18 +152,32 @@ fn add_if_picked(
     requires fits { IsPrefixOf problem.now.segs prefix.now }
     requires seg { pick.spot.seg.0 < length problem.now.segs }
     requires within { t.place < length terms.now }
-    ensures { OnOk result (list.new.items ≡ list.old.items ++ picked_one pick (lines_on problem.now.segs pick.spot.seg)
-        (lines_on prefix.now.placed pick.spot.seg) terms.now t) }
+    ensures { OnOk result (list.new.items ≡ list.old.items ++ (if is_picked_of pick (lines_on problem.now.segs pick.spot.seg)
+        (lines_on prefix.now.placed pick.spot.seg) terms.now t then term_of terms.now t ∷ [] else [])) }
+{
+    if is_picked(problem, prefix, pick, terms, t) {
+        list.push(terms[t.place as usize])?;
+    }
+    Ok(())
+}
+
+/// Whether a term at its spot is picked.
+fn is_picked(
+    problem: &Problem,
+    prefix: &Prefix,
+    pick: Pick,
+    terms: &[PartTerm],
+    t: SpotTerm,
+) -> bool
+    requires fits { IsPrefixOf problem.now.segs prefix.now }
+    requires seg { pick.spot.seg.0 < length problem.now.segs }
+    requires within { t.place < length terms.now }
+    ensures { result ≡ is_picked_of pick (lines_on problem.now.segs pick.spot.seg) (lines_on prefix.now.placed pick.spot.seg) terms.now t }
 {
     if !prefix.is_left(problem, pick.spot.seg, t.other) {
-        return Ok(());
+        return false;
     }
-    let own = terms[t.place as usize];
-    if is_of_any(pick.but, own.term) {
-        return Ok(());
-    }
-    list.push(own)?;
-    Ok(())
+    !is_of_any(pick.but, terms[t.place as usize].term)
 }
 
 /// Whether a term has a line, if there is one.
