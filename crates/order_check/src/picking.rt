@@ -30,6 +30,7 @@ pub(crate) struct Pick {
 /// The terms that a placing may change. Which of two lines stands first is decided by it where one of them is its own line,
 /// and the other one is left. Whether two lines are neighbours is settled by it where one is the line that is placed last
 /// before it, and the other one is left; and where just two lines are left once it is placed, for these two.
+#[inline(never)]
 pub(crate) fn changed_terms(
     alloc: Global,
     asked: &Asked,
