@@ -25,7 +25,7 @@ next_place-requires c =
     omega (
       arith,
       count,
-      ap length c.as_slice-place.ensures.value,
+      ap length c.as_slice.ensures.value,
       ap length c.loop-n.invariant.table.listed,
       length-map c.loop-n.entries.items plain_term,
       c.loop-n-test.true,
@@ -54,6 +54,6 @@ loop-n-preserved c =
           (n, get_or terms n no_term) c.in_ok-entry.entry c.loop-n.invariant.table c.in_ok-entry.ensures.plain c.in_ok-entry.ensures.slots c.in_ok-entry.ensures.ends c.in_ok-push.ensures.items);
       spots = table_listed c.loop-n.entries.items c.push.new.self.items c.in_ok-entry.entry c.next_place-place.result c.loop-n.spots.spots.keys c.list_term.new.table.spots.keys (term_lists c.loop-n.spots.lists.items)
           (term_lists c.list_term.new.table.lists.items) c.loop-n.invariant.spots c.in_ok-push.ensures.items
-          (c.next_place-place.ensures ∙ ap length c.as_slice-place.ensures.value)
+          (c.next_place-place.ensures ∙ ap length c.as_slice.ensures.value)
           (length-map c.list_term.new.table.lists.items (λ v. v.items) ∙ c.in_ok-list_term.ensures.each) c.in_ok-list_term.ensures.listed;
     }
