@@ -238,7 +238,9 @@ side_at seg first second w u = by_test (seg.0 == u.seg.0)
 -- The table, term by term.
 
 at_more : (u : Spot) (n m : ℕ) (terms : List PartTerm) (t : PartTerm) → m ≡ n + length terms → terms_at u n (terms ++ t ∷ []) ≡ terms_at u n terms ++ cond (is_at u t.term) (spot_term m u t.term ∷ []) []
-at_more u n m [] t e = ap (λ k. cond (is_at u t.term) (spot_term k u t.term ∷ []) []) (omega (arith, e))
+at_more u n m [] t e =
+    let same : n ≡ m = omega (arith, e) in
+    ap (λ k. cond (is_at u t.term) (spot_term k u t.term ∷ []) []) same
 at_more u n m (s ∷ terms) t e = by_test (is_at u s.term) (at_more u (suc n) m terms t (omega (arith, e)))
   where
     own : List SpotTerm
