@@ -12,6 +12,7 @@ use Rattle.std.proofs.lemmas.List.Sums.{sum_by-cons}
 use Rattle.map_base.specs.declared.ids.LineId.{LineId}
 use Rattle.order_model.specs.declared.term.Term.{Term}
 use Rattle.order_model.specs.Problems.{lines_on, IsTerm}
+use Rattle.order_model.specs.Costs.{same_answer}
 use Rattle.order_model.specs.Prefixes.{is_left}
 use Rattle.order_model.proofs.PlaceLemmas.{line_is}
 use Rattle.order_bound.specs.Decided.{decided_cost, decided_sum}

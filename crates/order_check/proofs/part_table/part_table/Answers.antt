@@ -17,8 +17,8 @@ part_term-requires c =
     omega (arith, length-map {B = ℕ × Term} (take c.loop-n.n-index c.args.numbers.now) (λ m. (m, get_or terms m no_term)), length-take-le c.loop-n.n-index c.args.numbers.now (omega (arith, c.loop-n-test.true))) in
     record { few = omega (arith, count, few_slots some, ap length c.loop-n.invariant.table.are_slots, c.loop-n-test.true, c.requires.few) }
 
-pub next_place-requires : goal.next_place-requires
-next_place-requires c =
+pub next_place-place-requires : goal.next_place-place-requires
+next_place-place-requires c =
     let some : List (ℕ × Term) = terms_by_number c.terms-terms.result.now (take c.loop-n.n-index c.args.numbers.now) in
     let count : length some ≡ c.loop-n.n-index =
     omega (arith, length-map {B = ℕ × Term} (take c.loop-n.n-index c.args.numbers.now) (λ m. (m, get_or c.terms-terms.result.now m no_term)), length-take-le c.loop-n.n-index c.args.numbers.now (omega (arith, c.loop-n-test.true))) in
