@@ -1,4 +1,5 @@
-//! The walk over a tree, node by node in the order of the text.
+//! The walk over a tree, node by node in the order of the text. What it calls beside itself is not merged into it, so that
+//! a level of the tree takes little of the stack.
 
 ghost use Rattle.std.specs.Prelude.{◌≡◌, ◌<◌, length, true, false, Contains, IfOk};
 ghost use Rattle.order_model.specs.Problems.{lines_on};
