@@ -15,6 +15,7 @@ use crate::solver::Solver;
 use map_base::NoMemory;
 
 /// Whether a stop holds with these prices at a node.
+#[inline(never)]
 pub(crate) fn is_stopped(
     asked: &Asked,
     node: &mut Node,

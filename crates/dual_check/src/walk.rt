@@ -117,6 +117,7 @@ fn walk_case(
 }
 
 /// Whether a fork holds: two different lines of a segment of the part.
+#[inline(never)]
 fn is_fork(asked: &Asked, seg: SegId, a: LineId, b: LineId) -> bool
     requires { IsAsked asked.now }
     ensures { result ≡ is_fork (question_of asked.now) seg a b }

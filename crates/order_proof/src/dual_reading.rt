@@ -1,4 +1,5 @@
-//! Reading a dual tree from the front of a text.
+//! Reading a dual tree from the front of a text. Its lines are read by functions that are not merged into the one that
+//! goes down the tree, so that a level takes little of the stack.
 
 ghost use Rattle.std.specs.Prelude.{◌≡◌, ◌∷◌, [], IfOk};
 ghost use Rattle.order_values.specs.DualTrees.{plain_dual};
@@ -17,6 +18,7 @@ use std::alloc::Global;
 
 /// The line of a node of a dual tree.
 #[tactic(auto, unfolding(crate::specs::FrontLine::front))]
+#[inline(never)]
 fn read_dual_line<'a>(
     alloc: Global,
     room: u32,
@@ -47,8 +49,8 @@ pub(crate) fn read_dual<'a>(
         DualLine::Stop { prices } => Ok((DualTree::Stop { prices }, rest)),
         DualLine::Fork { seg, a, b } => {
             let (first, rest) = read_dual(alloc, room - 1, rest, numbers)?;
-            let (second, rest) = read_dual(alloc, room - 1, rest, numbers)?;
             let first = Box::new(alloc, first)?;
+            let (second, rest) = read_dual(alloc, room - 1, rest, numbers)?;
             let second = Box::new(alloc, second)?;
             Ok((
                 DualTree::Fork {

@@ -1,6 +1,7 @@
-//! Reading a proof from the front of a text.
+//! Reading a proof from the front of a text. The lines of a tree are read, and its cases put in place, by functions that
+//! are not merged into those that go down the tree, so that a level takes little of the stack.
 
-ghost use Rattle.std.specs.Prelude.{◌≡◌, ◌≤◌, ◌<◌, ◌∷◌, [], map, IfOk};
+ghost use Rattle.std.specs.Prelude.{◌≡◌, ◌≤◌, ◌<◌, ◌∷◌, ◌++◌, [], map, IfOk, OnOk};
 ghost use Rattle.order_proof.specs.Plain.{plain, plain_children, plain_part_tree, plain_part, plain_proof};
 ghost use Rattle.order_proof.specs.FrontLine.{front};
 ghost use Rattle.order_proof.specs.Forms.{rules_in, rule_in, parts_in, part_in, node_in, take_in};
@@ -16,7 +17,7 @@ use crate::part_tree::PartTree;
 use crate::proof::{Part, Proof};
 use crate::tree::Tree;
 use decimal_text::{BadText, Stop, bad_text};
-use map_base::{LineId, SegId, Sequence};
+use map_base::{LineId, NoMemory, SegId, Sequence};
 use order_values::Rule;
 use std::alloc::Global;
 
@@ -81,6 +82,7 @@ fn read_part_head<'a>(
 
 /// The line of a node of a tree.
 #[tactic(auto, unfolding(crate::specs::FrontLine::front))]
+#[inline(never)]
 fn read_node<'a>(
     alloc: Global,
     room: u32,
@@ -98,6 +100,7 @@ fn read_node<'a>(
 
 /// The line of a case, with a line that is not taken yet.
 #[tactic(auto, unfolding(crate::specs::FrontLine::front))]
+#[inline(never)]
 fn read_take<'a>(
     taken: &[LineId],
     text: &'a [u8],
@@ -171,11 +174,26 @@ fn read_children<'a>(
     for _ in 0..count {
         let (line, behind) = read_take(taken.as_slice(), rest, numbers)?;
         let (tree, behind) = read_tree(alloc, room, behind, numbers)?;
-        taken.push(line)?;
-        children.push((line, tree))?;
+        push_case(&mut taken, &mut children, line, tree)?;
         rest = behind;
     }
     Ok((children, rest))
+}
+
+/// Puts a case behind the others, and its line behind those that are taken.
+#[inline(never)]
+fn push_case(
+    taken: &mut Vec<LineId>,
+    children: &mut Vec<(LineId, Tree)>,
+    line: LineId,
+    tree: Tree,
+) -> Result<(), NoMemory>
+    ensures taken { OnOk result (taken.new.items ≡ taken.old.items ++ line ∷ []) }
+    ensures children { OnOk result (children.new.items ≡ children.old.items ++ (line, tree) ∷ []) }
+{
+    taken.push(line)?;
+    children.push((line, tree))?;
+    Ok(())
 }
 
 /// A part's tree. Its first line decides of which kind it is.

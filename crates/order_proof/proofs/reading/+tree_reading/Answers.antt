@@ -31,8 +31,8 @@ read_children-returns-in_err-tree-clause-follows t c =
 
 pub read_children-loop-preserved : goal.read_children-loop-preserved
 read_children-loop-preserved t c =
-    case_taken c.args.room c.args.count c.loop.counter c.loop.taken.items c.push.new.self.items c.loop.children.items c.push-in-loop.new.self.items c.args.text.now c.loop.rest.now c.in_ok-line.line c.in_ok-tree.tree c.in_ok-line.behind.now c.in_ok-tree.behind.now
-    c.loop-test.true c.loop.invariant (ap (λ (ls : List LineId). front (take_in ls) c.loop.rest.now) (sym c.as_slice.ensures.value) ∙ c.in_ok-line.ensures) c.in_ok-tree.ensures.follows c.in_ok-tree.ensures.tree c.in_ok-push.ensures.items c.in_ok-push-2.ensures.items
+    case_taken c.args.room c.args.count c.loop.counter c.loop.taken.items c.push_case.new.taken.items c.loop.children.items c.push_case.new.children.items c.args.text.now c.loop.rest.now c.in_ok-line.line c.in_ok-tree.tree c.in_ok-line.behind.now c.in_ok-tree.behind.now
+    c.loop-test.true c.loop.invariant (ap (λ (ls : List LineId). front (take_in ls) c.loop.rest.now) (sym c.as_slice.ensures.value) ∙ c.in_ok-line.ensures) c.in_ok-tree.ensures.follows c.in_ok-tree.ensures.tree c.in_ok-push_case.ensures.taken c.in_ok-push_case.ensures.children
 
 pub read_children-returns-clause-follows : goal.read_children-returns-clause-follows
 read_children-returns-clause-follows t c = (cases_end c.args.room c.args.count c.loop.counter c.loop.taken.items c.loop.children.items c.args.text.now c.loop.rest.now (omega arith) c.loop.invariant).0
