@@ -15,7 +15,7 @@ use crate::texts::{Texts, printed_at, width_with};
 use graph_core::{LineGraph, NodeKind};
 use map_base::{NoMemory, NodeId, SegId, Sequence};
 use octi_grid::{Drawing, GridPoint, Walk, run_end};
-use poster_plan::{Mark, Piece, Plan};
+use poster_plan::{Mark, Piece, Plan, TextWidth};
 use std::alloc::Global;
 use svg_writer::{ends_of, first_of, put_at, round_of};
 
@@ -113,7 +113,7 @@ fn name_width(
     served: Served<'_>,
     texts: &Texts<'_>,
     n: NodeId,
-) -> Result<Option<u32>, NoMemory>
+) -> Result<Option<TextWidth>, NoMemory>
     requires graph { IsConsistent served.graph.now }
     requires texts { AreTextsOf served.names.now served.graph.now texts.now }
     ensures { IfOk result (λ width. width ≡ name_width served.entry.names.now served.entry.graph.now served.entry.callers.now n.0 (printed_at served.entry.graph.now (all_rests served.entry.names.now served.entry.graph.now) n.0)) }
