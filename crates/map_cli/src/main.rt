@@ -153,6 +153,7 @@ fn status_after(status: Status, placed: Result<(), Stop>) -> Status
 
 /// An output of what the words ask for that is one file with an input, or with another output. Words that are not
 /// read are told by the run.
+#[inline(never)]
 fn clash_in(rt: &HostRuntime, words: &[String]) -> Result<Option<Clash>, NoMemory> {
     match command_of(rt.alloc(), words) {
         Ok(command) => clash_of(rt.alloc(), &command, &DiskLeads::new(rt, rt.alloc())),
@@ -161,6 +162,7 @@ fn clash_in(rt: &HostRuntime, words: &[String]) -> Result<Option<Clash>, NoMemor
 }
 
 /// Says which paths are one file.
+#[inline(never)]
 fn refuse_clash(rt: &HostRuntime, clash: &Clash) -> Status
     ensures { result ≡ Status.Usage }
 {
@@ -173,6 +175,7 @@ fn refuse_clash(rt: &HostRuntime, clash: &Clash) -> Status
 }
 
 /// Says on standard error what a status means for the user, if there is anything to say and memory for it.
+#[inline(never)]
 fn say_more(rt: &HostRuntime, words: &[String], status: &Status, fault: Option<WriteError<'_>>) {
     if let Ok(lines) = message(rt, words, status, fault) {
         let _not_shown = eprint!(rt; "{lines}");
@@ -180,6 +183,7 @@ fn say_more(rt: &HostRuntime, words: &[String], status: &Status, fault: Option<W
 }
 
 /// Says on standard error what a run was at when memory ended.
+#[inline(never)]
 fn say_stage(rt: &HostRuntime, status: &Status, progress: &Option<Arc<Progress, Global>>) {
     if let Status::NoMemory = status {
         if let Some(progress) = progress {
