@@ -20,8 +20,8 @@ const OF_NOTHING: &[u8] = b"octimap 1\ngraph 0 0 0\n";
 /// How many types of routes are told.
 const TOLD: usize = 12;
 
-/// The lines for a map that was made and shows nothing, and for a picture of such a map: which routes the feed has, and
-/// what to do. Empty for all other commands, and for all other maps.
+/// The lines for a map that was made and shows nothing, and for a picture of such a map: which routes the feed has, and what
+/// to do. Empty for all other commands, and for all other maps.
 pub(crate) fn blank_map<R: Files + AllocGlobal>(
     rt: &R,
     command: &Command<'_>,
