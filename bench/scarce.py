@@ -8,7 +8,7 @@ Over three small feeds and Vienna's underground, and for each command:
 - short files: with each greatest length of a file (`ulimit -f`, in bytes) up to that of its longest output, or N of them
   (300), standard output into a file among them. A run never ends by a signal (SIGXFSZ); it ends with status 8 and the
   outputs as they were, or with its ordinary status and bytes.
-- a short stack: 128 KB, with the ordinary status and bytes. Over a feed of its own, with 1 MB, `check` and `labels` of a
+- a short stack: 64 KB, with the ordinary status and bytes. Over a feed of its own, with 1 MB, `check` and `labels` of a
   certificate whose tree has as many levels as one may have; and with one level more, which is no certificate.
 - a full disk: a file system of 16 KB (a `tmpfs`, which only root can make) with a small pair of map and certificate on it,
   to which `map` writes Vienna's: status 8, and both old files whole.
@@ -26,7 +26,7 @@ from trials import COMMANDS, FEEDS, OLD, SECONDS, TOP, Judge, Program, write_fee
 MOST_LEVELS = 2048
 
 # bytes of stack: for a command, and for a proof of so many levels
-STACK, DEEP_STACK = 128 << 10, 1 << 20
+STACK, DEEP_STACK = 64 << 10, 1 << 20
 
 
 class Limited(Program):

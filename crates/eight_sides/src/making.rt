@@ -97,7 +97,7 @@ fn half_above(z: i64) -> i64
 
 /// How much x - y or x + y changes over a length on a slant, at most.
 pub fn slanted_length(n: u64) -> u64
-    requires { n ≤ 34359738368 }
+    requires { n ≤ 68719476736 }
     ensures value { result ≡ slanted_length n }
     ensures small { result ≤ 2 * n }
 {

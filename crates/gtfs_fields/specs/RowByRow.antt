@@ -10,11 +10,11 @@ row_read reader = fields_of reader.row
 
 -- the rows behind those that were read
 unfoldable pub rows_to_come : RowReader → List (List (List ℕ))
-rows_to_come reader = rows_left reader.reader
+rows_to_come reader = rows_left reader.reader.value
 
 -- a reader that reads on
 unfoldable pub IsReading : RowReader → Type 0
-IsReading reader = IsPlain reader.reader
+IsReading reader = IsPlain reader.reader.value
 
 -- what a read does: it takes the first of the rows to come, if there is one
 abbrev pub Reads : RowReader → Bool → RowReader → Type 0

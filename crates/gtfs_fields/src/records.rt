@@ -10,7 +10,8 @@ use map_base::NoMemory;
 use std::alloc::Global;
 
 /// A reader of the records of these bytes, after one byte order mark. None is taken for a header.
-pub(crate) fn reader_of<'a>(alloc: Global, bytes: &'a [u8]) -> Reader<&'a [u8]>
+#[inline(never)]
+fn new_reader<'a>(alloc: Global, bytes: &'a [u8]) -> Reader<&'a [u8]>
     ensures plain { IsPlain result }
     ensures left { rows_left result ≡ records_of bytes.now }
 {
@@ -18,6 +19,19 @@ pub(crate) fn reader_of<'a>(alloc: Global, bytes: &'a [u8]) -> Reader<&'a [u8]>
         .has_headers(false)
         .flexible(true)
         .from_reader(alloc, bytes)
+}
+
+/// The same on the heap, as a reader holds 16 KB. What a reader takes of the stack before it is there is let go before
+/// a row is read.
+#[inline(never)]
+pub(crate) fn reader_of<'a>(
+    alloc: Global,
+    bytes: &'a [u8],
+) -> Result<Box<Reader<&'a [u8]>>, NoMemory>
+    ensures plain { IfOk result (λ reader. IsPlain reader.value) }
+    ensures left { IfOk result (λ reader. rows_left reader.value ≡ records_of bytes.now) }
+{
+    Ok(Box::new(alloc, new_reader(alloc, bytes))?)
 }
 
 /// Reads the next record, and says whether there was one. Records may differ in width and need not be text, so

@@ -13,21 +13,20 @@ use std::alloc::Global;
 /// Reads the rows of a table one at a time, the header first, and keeps the one that it read last.
 #[derive(Drop)]
 pub struct RowReader<'a> {
-    reader: Reader<&'a [u8]>,
+    reader: Box<Reader<&'a [u8]>>,
     row: ByteRecord,
 }
 
 impl<'a> RowReader<'a> {
     /// A reader of all rows of these bytes, which are those that `read_rows` gives.
     #[tactic(auto, unfolding(crate::specs::RowByRow::IsReading, crate::specs::RowByRow::rows_to_come))]
-    pub fn new(alloc: Global, bytes: &'a [u8]) -> RowReader<'a>
-        ensures reading { IsReading result }
-        ensures all { rows_to_come result ≡ records_of bytes.now }
+    pub fn new(alloc: Global, bytes: &'a [u8]) -> Result<RowReader<'a>, NoMemory>
+        ensures reading { IfOk result IsReading }
+        ensures all { IfOk result (λ reader. rows_to_come reader ≡ records_of bytes.now) }
     {
-        RowReader {
-            reader: reader_of(alloc, bytes),
-            row: ByteRecord::new(alloc),
-        }
+        let reader = reader_of(alloc, bytes)?;
+        let row = ByteRecord::new(alloc);
+        Ok(RowReader { reader, row })
     }
 
     /// Reads the next row, and says whether there was one. Where memory is wanting, no more can be read.
@@ -37,7 +36,7 @@ impl<'a> RowReader<'a> {
         ensures reading { OnOk result (IsReading self.new) }
         ensures reads { IfOk result (λ found. Reads self.old found self.new) }
     {
-        read_next(&mut self.reader, &mut self.row)
+        read_next(&mut *self.reader, &mut self.row)
     }
 
     /// The row that was read last.

@@ -126,11 +126,11 @@ fn place_of(count: usize) -> Result<u32, NoMemory>
 pub fn read_rows(alloc: Global, bytes: &[u8]) -> Result<Rows, NoMemory>
     ensures { IfOk result (λ rows. rows ≡ records_of bytes.now) }
 {
-    let mut reader = reader_of(alloc, bytes);
+    let mut reader = reader_of(alloc, bytes)?;
     let mut row = ByteRecord::new(alloc);
     let mut fields = Pieces::with_room(alloc, bytes.len())?;
     let mut ends = Vec::new(alloc);
-    while read_next(&mut reader, &mut row)? {
+    while read_next(&mut *reader, &mut row)? {
         push_fields(&mut fields, &row)?;
         ends.push(place_of(fields.len())?)?;
     }

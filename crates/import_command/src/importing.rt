@@ -28,6 +28,7 @@ use std::sync::ledger::Ledger;
 
 /// Makes the map of a graph file, and its certificate. Of the settings the weights, the cell and the budget count, and how
 /// a map is found.
+#[inline(never)]
 pub fn import_graph<F: Files, L: Ledger>(
     alloc: Global,
     inputs: &Inputs<'_>,

@@ -24,6 +24,7 @@ use std::sync::ledger::Ledger;
 
 /// Makes the map of a command's feed, and its certificate, makes at most so many moves more on its drawing, and tells what
 /// they made of it.
+#[inline(never)]
 pub fn improve_map<F: Files, L: Ledger>(
     alloc: Global,
     inputs: &Inputs<'_>,

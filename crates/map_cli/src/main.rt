@@ -6,7 +6,7 @@ ghost use Rattle.std.specs.Prelude.{◌≡◌, ◌<◌, ◌⊎◌, false, IsErrO
 
 use command_words::{VERSION, asks_version, command_of, is_quiet};
 use disk_door::{DiskFiles, DiskLeads, DiskSinks, WriteError};
-use files_door::Stop;
+use files_door::{Files, Sinks, Stop};
 use map_base::{NoMemory, Progress, Stage, Steps};
 use map_run::run;
 use output_guard::{Clash, clash_of};
@@ -45,6 +45,7 @@ fn tell_version(rt: &HostRuntime) -> Status {
 }
 
 /// The words after the program's name.
+#[inline(never)]
 fn words_of(rt: &HostRuntime) -> io::Result<Vec<String>> {
     let mut words = Vec::new(rt.alloc());
     for word in env::args(rt)?.skip(1) {
@@ -79,7 +80,7 @@ fn run_on_disk<L: Ledger>(rt: &HostRuntime, words: &[String], blank: Blank) -> S
     let mut files = DiskFiles::watched(rt, again(&progress));
     let mut sinks = DiskSinks::watched(rt, rt.alloc(), again(&progress));
     let mut steps = Steps::<L>::watched(blank, again(&progress));
-    let status = run(rt.alloc(), words, &mut files, &mut sinks, &mut steps);
+    let status = run_whole(rt.alloc(), words, &mut files, &mut sinks, &mut steps);
     if let Some(progress) = &progress {
         progress.hide();
     }
@@ -89,6 +90,18 @@ fn run_on_disk<L: Ledger>(rt: &HostRuntime, words: &[String], blank: Blank) -> S
         say_stage(rt, &ended, &progress);
     }
     ended
+}
+
+/// The run, which lets go what it takes of the stack before more is said.
+#[inline(never)]
+fn run_whole<F: Files, S: Sinks, L: Ledger>(
+    alloc: Global,
+    words: &[String],
+    files: &mut F,
+    sinks: &mut S,
+    steps: &mut Steps<L>,
+) -> Status {
+    run(alloc, words, files, sinks, steps)
 }
 
 /// What tells how far a run on these words is: on the terminal, where standard error is one and may be written to.
@@ -107,6 +120,7 @@ fn again(progress: &Option<Arc<Progress, Global>>) -> Option<Arc<Progress, Globa
 }
 
 /// Puts what a run wrote in its place, or forgets it; the status that the program ends with.
+#[inline(never)]
 fn end<R: rt::Files + Print>(status: Status, words: &[String], sinks: &mut DiskSinks<R>) -> Status {
     if is_put_in_place(&status, words, sinks) {
         return status_after(status, sinks.put_in_place());
@@ -153,6 +167,7 @@ fn status_after(status: Status, placed: Result<(), Stop>) -> Status
 
 /// An output of what the words ask for that is one file with an input, or with another output. Words that are not
 /// read are told by the run.
+#[inline(never)]
 fn clash_in(rt: &HostRuntime, words: &[String]) -> Result<Option<Clash>, NoMemory> {
     match command_of(rt.alloc(), words) {
         Ok(command) => clash_of(rt.alloc(), &command, &DiskLeads::new(rt, rt.alloc())),
@@ -161,6 +176,7 @@ fn clash_in(rt: &HostRuntime, words: &[String]) -> Result<Option<Clash>, NoMemor
 }
 
 /// Says which paths are one file.
+#[inline(never)]
 fn refuse_clash(rt: &HostRuntime, clash: &Clash) -> Status
     ensures { result ≡ Status.Usage }
 {
@@ -173,6 +189,7 @@ fn refuse_clash(rt: &HostRuntime, clash: &Clash) -> Status
 }
 
 /// Says on standard error what a status means for the user, if there is anything to say and memory for it.
+#[inline(never)]
 fn say_more(rt: &HostRuntime, words: &[String], status: &Status, fault: Option<WriteError<'_>>) {
     if let Ok(lines) = message(rt, words, status, fault) {
         let _not_shown = eprint!(rt; "{lines}");
@@ -180,6 +197,7 @@ fn say_more(rt: &HostRuntime, words: &[String], status: &Status, fault: Option<W
 }
 
 /// Says on standard error what a run was at when memory ended.
+#[inline(never)]
 fn say_stage(rt: &HostRuntime, status: &Status, progress: &Option<Arc<Progress, Global>>) {
     if let Status::NoMemory = status {
         if let Some(progress) = progress {

@@ -25,6 +25,7 @@ use std::alloc::Global;
 
 /// Checks a map and its certificate against a command's feed. The line graph is built first, then the certificate is
 /// read, and last the map.
+#[inline(never)]
 pub fn check_map<F: Files>(
     alloc: Global,
     inputs: &Inputs<'_>,

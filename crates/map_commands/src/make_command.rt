@@ -25,6 +25,7 @@ use std::alloc::Global;
 use std::sync::ledger::Ledger;
 
 /// Makes the map of a command's feed, its certificate, and the page of its poster where one is named.
+#[inline(never)]
 pub fn make_map<F: Files, L: Ledger>(
     alloc: Global,
     inputs: &Inputs<'_>,

@@ -12,11 +12,15 @@ octimap: the types of the routes (1 in routes.txt): 401; to draw them, add --set
 
 #[test]
 fn a_blank_map_is_told_with_the_types_of_routes(rt: HostRuntime) -> Result<(), Fail> {
+    let alloc = rt.alloc();
     write_feed(&rt, "blank", "401")?;
     let said = told(&rt, "make blank blank.svg blank.cert")?;
     assert_eq!(rt; said.as_str(), BLANK);
-    let said = told(&rt, "poster blank blank.cert blank_poster.svg")?;
-    assert_eq!(rt; said.as_str(), BLANK);
+    for command in ["labels", "geo", "poster"] {
+        let line = format!(in alloc; "{command} blank blank.cert blank_picture.svg")?;
+        let said = told(&rt, line.as_str())?;
+        assert_eq!(rt; said.as_str(), BLANK);
+    }
     let said = told(&rt, "check blank blank.svg blank.svg")?;
     assert_eq!(rt;
         said.as_str(),
@@ -25,7 +29,7 @@ fn a_blank_map_is_told_with_the_types_of_routes(rt: HostRuntime) -> Result<(), F
     fs::remove_dir_all(&rt, "blank")?;
     fs::remove_file(&rt, "blank.svg")?;
     fs::remove_file(&rt, "blank.cert")?;
-    fs::remove_file(&rt, "blank_poster.svg")?;
+    fs::remove_file(&rt, "blank_picture.svg")?;
     Ok(())
 }
 
@@ -38,6 +42,11 @@ fn a_map_that_shows_something_is_told_nothing(rt: HostRuntime) -> Result<(), Fai
     assert_eq!(rt;
         said.as_str(),
         "octimap: \"missing/drawn.svg\" can't be written: No such file or directory (os error 2)\n"
+    );
+    let said = told(&rt, "check drawn missing.svg drawn.cert")?;
+    assert_eq!(rt;
+        said.as_str(),
+        "octimap: there is no file \"missing.svg\"\n"
     );
     let said = told(&rt, "page missing.svg drawn.html")?;
     assert_eq!(rt;

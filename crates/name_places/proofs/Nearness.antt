@@ -48,7 +48,7 @@ slanted_near d s a b c e =
       down = record { least = omega (arith, top); greatest = omega (arith, bottom) };
     }
 
-module _ (x y : ℤ) (from long by : ℕ) (across : unsigned_abs x ≤ 429496729600) (down : unsigned_abs y ≤ 429496729600) (few : from + (long + by) ≤ 100000000000) where
+module _ (x y : ℤ) (from long by : ℕ) (across : unsigned_abs x ≤ 429496729600) (down : unsigned_abs y ≤ 429496729600) (few : from + (long + by) ≤ 120000000000) where
   up_east : IsNearShape (slanted (onwards (x -ℤ y) from long) (around (x +ℤ y) by))
   up_east = slanted_near (onwards (x -ℤ y) from long) (around (x +ℤ y) by) (omega (arith, ints)) (omega (arith, ints)) (omega (arith, ints)) (omega (arith, ints))
 
@@ -63,10 +63,10 @@ module _ (x y : ℤ) (from long by : ℕ) (across : unsigned_abs x ≤ 429496729
 
 -- ---- how far names reach
 
-pub width_small : (s : Sign) (z : Step) → s.tenths < 4294967296 → width s z ≤ 12884901885
-width_small s Full few = omega arith
-width_small s Small few = omega arith
-width_small s Over few = omega arith
+pub width_small : (s : Sign) (z : Step) → s.tenths ≤ 17179869184 → width s z ≤ 51539607552
+width_small s Full few = omega (arith, few)
+width_small s Small few = omega (arith, few)
+width_small s Over few = omega (arith, few)
 
 size_small : (z : Step) → size z ≤ 30
 size_small Full = omega arith
@@ -84,10 +84,10 @@ half_small Small = omega arith
 half_small Over = omega arith
 
 -- a name takes up what can be reckoned with
-pub place_near : (s : Sign) (z : Step) (p : Place) → IsNear s.centre → s.radius < 4294967296 → s.tenths < 4294967296 → IsNearShape (place_shape s z p)
+pub place_near : (s : Sign) (z : Step) (p : Place) → IsNear s.centre → s.radius < 4294967296 → s.tenths ≤ 17179869184 → IsNearShape (place_shape s z p)
 place_near s z p near radius tenths = by_place p
   where
-    w : width s z ≤ 12884901885
+    w : width s z ≤ 51539607552
     w = width_small s z tenths
 
     h : size z ≤ 30
@@ -99,10 +99,10 @@ place_near s z p near radius tenths = by_place p
     k : corner_gap s ≤ 4294967301
     k = omega (arith, radius)
 
-    half : half_width s z ≤ 6442450943
+    half : half_width s z ≤ 25769803776
     half = omega (arith, w)
 
-    far : 2 * lean s z + (long s z + 2 * slant z) ≤ 100000000000
+    far : 2 * lean s z + (long s z + 2 * slant z) ≤ 120000000000
     far = omega (arith, w, radius, slant_small z)
 
     level : IsNearBy (around s.centre.y (5 * tenth z))

@@ -8,7 +8,7 @@ use line_offsets::Corner;
 
 /// A number that is so much greater.
 pub fn up(z: i64, by: u64) -> i64
-    requires { unsigned_abs z + by ≤ 8796093022208 }
+    requires { unsigned_abs z + by ≤ 70368744177664 }
     ensures value { result ≡ z +ℤ pos by }
     ensures small { unsigned_abs result ≤ unsigned_abs z + by }
 {
@@ -17,7 +17,7 @@ pub fn up(z: i64, by: u64) -> i64
 
 /// A number that is so much less.
 pub fn down(z: i64, by: u64) -> i64
-    requires { unsigned_abs z + by ≤ 8796093022208 }
+    requires { unsigned_abs z + by ≤ 70368744177664 }
     ensures value { result ≡ z -ℤ pos by }
     ensures small { unsigned_abs result ≤ unsigned_abs z + by }
 {

@@ -105,10 +105,11 @@ fn half_size(step: Step) -> u64
 
 /// How wide a name is.
 fn width(sign: Sign, step: Step) -> u64
+    requires { sign.tenths ≤ 17179869184 }
     ensures value { result ≡ width sign step }
-    ensures small { result ≤ 12884901885 }
+    ensures small { result ≤ 51539607552 }
 {
-    u64::from(tenth(step)) * u64::from(sign.tenths)
+    u64::from(tenth(step)) * sign.tenths
 }
 
 /// How far a name keeps from the centre of its station, beside it.
@@ -137,16 +138,18 @@ fn slant(step: Step) -> u64
 
 /// How long a slanted name is in x - y or x + y.
 fn long(sign: Sign, step: Step) -> u64
+    requires { sign.tenths ≤ 17179869184 }
     ensures value { result ≡ long sign step }
-    ensures small { result ≤ 25769803770 }
+    ensures small { result ≤ 103079215104 }
 {
     slanted_length(width(sign, step))
 }
 
 /// Half of a name's width, rounded up.
 fn half_width(sign: Sign, step: Step) -> u64
+    requires { sign.tenths ≤ 17179869184 }
     ensures value { result ≡ half_width sign step }
-    ensures small { result ≤ 6442450943 }
+    ensures small { result ≤ 25769803776 }
 {
     (width(sign, step) + 1) / 2
 }
@@ -185,7 +188,8 @@ fn backwards(z: i64, from: u64, long: u64) -> Interval
 
 /// The two intervals that tell what a name takes up at a place: x and y of a level one, x - y and x + y of a slanted one.
 fn sides(sign: Sign, step: Step, place: Place) -> (Interval, Interval)
-    requires { IsNear sign.centre }
+    requires near { IsNear sign.centre }
+    requires few { sign.tenths ≤ 17179869184 }
     ensures value { result ≡ sides sign step place }
     ensures first { IsShort result.0 }
     ensures second { IsShort result.1 }
@@ -213,7 +217,8 @@ fn sides(sign: Sign, step: Step, place: Place) -> (Interval, Interval)
 
 /// What a name takes up at a place.
 pub fn place_shape(sign: Sign, step: Step, place: Place) -> Shape
-    requires { IsNear sign.centre }
+    requires near { IsNear sign.centre }
+    requires few { sign.tenths ≤ 17179869184 }
     ensures value { result ≡ place_shape sign step place }
     ensures near { IsNearShape result }
 {

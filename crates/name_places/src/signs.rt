@@ -11,18 +11,19 @@ use eight_sides::{Shape, mark_shape, piece_shape};
 use line_offsets::drawn_at;
 use map_base::NodeId;
 use octi_grid::GridPoint;
-use poster_plan::{Mark, Piece, Plan, Printed, Sign};
+use poster_plan::{Mark, Piece, Plan, Printed, Sign, TextWidth};
 
 /// A station as it is drawn at a pitch.
 pub fn sign_of(pitch: u32, mark: Mark) -> Sign
     requires { pitch ≤ 200 }
     ensures value { result ≡ sign_of pitch mark }
     ensures near { IsNear result.centre }
+    ensures few { result.tenths ≤ 17179869184 }
 {
     Sign {
         centre: drawn_at(pitch, mark.at),
         radius: mark.radius,
-        tenths: mark.name.unwrap_or(0),
+        tenths: mark.name.unwrap_or(TextWidth::none()).number(),
     }
 }
 

@@ -6,13 +6,13 @@ ghost use Rattle.name_widths.specs.Widths.{char_width, is_capital, is_one_of, na
 use map_base::NoMemory;
 
 /// How wide a text is, in tenths of the size of its type. A text that is too long to reckon with has no room.
-pub fn text_width(text: &str) -> Result<u32, NoMemory>
+pub fn text_width(text: &str) -> Result<u64, NoMemory>
     ensures value { IfOk result (λ w. w ≡ text_width text.now) }
-    ensures small { IfOk result (λ w. w ≤ 1000000010) }
+    ensures small { IfOk result (λ w. w ≤ 1152921504606846986) }
 {
-    let mut width = 0;
+    let mut width: u64 = 0;
     for c in text.chars() {
-        if width > 1_000_000_000 {
+        if width > 1_152_921_504_606_846_976 {
             return Err(NoMemory);
         }
         width += char_width(c);
@@ -21,7 +21,7 @@ pub fn text_width(text: &str) -> Result<u32, NoMemory>
 }
 
 /// How wide a character is.
-fn char_width(c: char) -> u32
+fn char_width(c: char) -> u64
     ensures value { result ≡ char_width c }
     ensures small { result ≤ 10 }
 {

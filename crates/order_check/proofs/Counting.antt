@@ -1,11 +1,12 @@
 -- Sums over a part's terms: of those that count, and of the others.
+use mathlib.Core.Bool.{beq}
 use Rattle.std.proofs.Common.{◌≡◌, ℕ, zero, suc, ◌+◌, ◌*◌, ◌<◌, ◌≤◌, ◌==◌, ◌&&◌, ◌||◌, ◌++◌, not, Bool, true, false, cond, List, [], ◌∷◌, length, map, take, get_or, refl, sym, ◌∙◌, ap, subst, arith, length-append, append_assoc, append-nil, true≢false}
 use Rattle.std.specs.Prelude.{ℤ, pos, ◌+ℤ◌, ◌-ℤ◌, unsigned_abs}
 use Rattle.std.specs.List.{sum_by, filter}
 use Rattle.std.proofs.Math.Bool.{and-false}
 use Rattle.std.proofs.lemmas.Int.{ints}
 use Rattle.std.proofs.lemmas.List.{take_all, take_more}
-use Rattle.std.proofs.lemmas.List.Elements.{All-append, All-filter, filter-append}
+use Rattle.std.proofs.lemmas.List.Elements.{All-append, All-filter}
 use Rattle.std.proofs.lemmas.List.Filters.{length-filter_both}
 use Rattle.std.proofs.lemmas.List.Sums.{sum_by-cons}
 use Rattle.map_base.specs.declared.ids.LineId.{LineId}
@@ -19,13 +20,14 @@ use Rattle.whole_sums.specs.Sums.{int_sum}
 use Rattle.whole_sums.proofs.Sums.{int_sum-append, int_sum_equal, int_sum_both, int_sum_pos}
 use Rattle.order_check.specs.declared.slot.PartTerm.{PartTerm}
 use Rattle.order_check.specs.declared.slot.Charge.{Charge}
+use Rattle.order_check.specs.declared.spot.SpotTerm.{SpotTerm}
 use Rattle.order_check.specs.declared.placing.Placing.{Placing}
 use Rattle.order_check.specs.declared.picking.Pick.{Pick}
 use Rattle.order_check.specs.declared.asked.Asked.{Asked}
 use Rattle.order_check.specs.Slots.{plain_term, charge_on}
 use Rattle.order_check.specs.Charging.{no_part_term, AreTerms}
-use Rattle.order_check.specs.Spots.{is_on, is_of_line, is_at, is_apart}
-use Rattle.order_check.specs.Placings.{beside_line, is_picked, is_picked_at, own_pick, last_pick, left_pick, changes, picked_terms, changed_terms}
+use Rattle.order_check.specs.Spots.{is_on, is_of_line, is_at, is_apart, beside_line, spot_term, terms_at}
+use Rattle.order_check.specs.Placings.{is_of_any, is_picked, is_picked_at, is_picked_of, picked_of, term_of, own_pick, last_pick, left_pick, changes, picked_terms, changed_terms}
 use Rattle.order_check.specs.Counting.{added_by, decided_of, shifted, turned, AreThose}
 use Rattle.order_check.proofs.SignedSums.{abs_sum, sum_more}
 use Rattle.order_check.proofs.Charging.{small_charges, decided_is}
@@ -153,18 +155,16 @@ small_decided segs placed table fits =
 
 -- no term is of two picks
 none_twice : (e a b c x p q r : Bool)
-    → (((e && a) && (same_answer x false && p)) && (((e && b) && (same_answer x true && q)) || ((e && c) && (same_answer x true && (r && not b))))) ≡ false
+    → (((e && (beq x false && a)) && p) && (((e && (beq x true && b)) && q) || ((e && (beq x true && c)) && (r && not b)))) ≡ false
 none_twice false a b c x p q r = refl
-none_twice true false b c x p q r = refl
-none_twice true true b c true p q r = refl
-none_twice true true b c false p q r = ap (λ t. (p && (t || (c && false)))) (and-false b) ∙ ap (λ t. p && t) (and-false c) ∙ and-false p
+none_twice true a b c true p q r = refl
+none_twice true a b c false p q r = and-false (a && p)
 
-last_or_left : (e b c x q r : Bool) → (((e && b) && (same_answer x true && q)) && ((e && c) && (same_answer x true && (r && not b)))) ≡ false
+last_or_left : (e b c x q r : Bool) → (((e && (beq x true && b)) && q) && ((e && (beq x true && c)) && (r && not b))) ≡ false
 last_or_left false b c x q r = refl
-last_or_left true false c x q r = refl
-last_or_left true true c false q r = refl
-last_or_left true true false true q r = and-false q
-last_or_left true true true true q r = ap (λ t. q && t) (and-false r) ∙ and-false q
+last_or_left true b c false q r = refl
+last_or_left true false c true q r = refl
+last_or_left true true c true q r = ap (λ t. q && (c && t)) (and-false r) ∙ ap (λ t. q && t) (and-false c) ∙ and-false q
 
 of_either : (g : Bool → ℤ) → g false ≡ pos 0 → (b c : Bool) → (b && c) ≡ false → g (b || c) ≡ g b +ℤ g c
 of_either g none true true h = absurd (true≢false h)
@@ -241,19 +241,38 @@ changed_are p lines placed asked some fits few is = record {
     of_pick c = All-filter (λ (t : PartTerm). is_picked_at c lines placed t.term) (λ (t : PartTerm). IsTerm asked.problem.now.segs t.term) table fits
 
 -- The terms that a pick picks of those at its spot.
-pub picked_of_spot : (c : Pick) (lines placed : List LineId) (table : List PartTerm)
-    → filter (λ (t : PartTerm). is_picked c lines placed t.term) (filter (λ (t : PartTerm). is_at c.spot t.term) table) ≡ picked_terms c lines placed table
-picked_of_spot c lines placed [] = refl
-picked_of_spot c lines placed (t ∷ table) = by_test (is_at c.spot t.term) (picked_of_spot c lines placed table)
-  where
-    own : PartTerm → Bool
-    own u = is_picked c lines placed u.term
 
-    by_test : (b : Bool) → filter own (filter (λ (u : PartTerm). is_at c.spot u.term) table) ≡ picked_terms c lines placed table
-        → filter own (cond b (t ∷ filter (λ (u : PartTerm). is_at c.spot u.term) table) (filter (λ (u : PartTerm). is_at c.spot u.term) table))
-        ≡ cond (b && own t) (t ∷ picked_terms c lines placed table) (picked_terms c lines placed table)
-    by_test true rest = ap (λ l. cond (own t) (t ∷ l) l) rest
-    by_test false rest = rest
+at_front : (front terms : List PartTerm) (t : PartTerm) → get_or (front ++ t ∷ terms) (length front) no_part_term ≡ t
+at_front [] terms t = refl
+at_front (s ∷ front) terms t = at_front front terms t
+
+of_rest : (c : Pick) (lines placed : List LineId) (front terms whole : List PartTerm) (n : ℕ) → whole ≡ front ++ terms → n ≡ length front
+    → picked_of c lines placed whole (terms_at c.spot n terms) ≡ picked_terms c lines placed terms
+of_rest c lines placed front [] whole n is count = refl
+of_rest c lines placed front (t ∷ terms) whole n is count =
+    by_test (is_at c.spot t.term)
+    (of_rest c lines placed (front ++ t ∷ []) terms whole (suc n) (is ∙ sym (append_assoc front (t ∷ []) terms)) (omega (arith, count, length-append front (t ∷ []))))
+  where
+    rest : List SpotTerm
+    rest = terms_at c.spot (suc n) terms
+
+    here : get_or whole n no_part_term ≡ t
+    here = ap (λ l. get_or l n no_part_term) is ∙ ap (λ k. get_or (front ++ t ∷ terms) k no_part_term) count ∙ at_front front terms t
+
+    by_pick : (b : Bool) (others : List PartTerm) → cond b (t ∷ []) [] ++ others ≡ cond b (t ∷ others) others
+    by_pick true others = refl
+    by_pick false others = refl
+
+    by_test : (b : Bool) → picked_of c lines placed whole rest ≡ picked_terms c lines placed terms
+        → picked_of c lines placed whole (cond b (spot_term n c.spot t.term ∷ rest) rest) ≡ cond (b && is_picked c lines placed t.term) (t ∷ picked_terms c lines placed terms) (picked_terms c lines placed terms)
+    by_test true others =
+        ap (λ (own : PartTerm). cond (is_left lines placed (beside_line c.spot.line t.term) && not (is_of_any c.but own.term)) (own ∷ []) [] ++ picked_of c lines placed whole rest) here
+        ∙ ap (λ l. cond (is_picked c lines placed t.term) (t ∷ []) [] ++ l) others
+        ∙ by_pick (is_picked c lines placed t.term) (picked_terms c lines placed terms)
+    by_test false others = others
+
+pub picked_of_spot : (c : Pick) (lines placed : List LineId) (table : List PartTerm) → picked_of c lines placed table (terms_at c.spot 0 table) ≡ picked_terms c lines placed table
+picked_of_spot c lines placed table = of_rest c lines placed [] table table 0 refl refl
 
 -- where the other line that is left is the one that is placed last, its pick picks none
 pub left_none : (p : Placing) (lines placed : List LineId) (table : List PartTerm) → p.left.0 ≡ p.last.0 → picked_terms (left_pick p) lines placed table ≡ []
@@ -261,29 +280,36 @@ left_none p lines placed [] same = refl
 left_none p lines placed (t ∷ table) same =
     ap (λ b. cond b (t ∷ picked_terms (left_pick p) lines placed table) (picked_terms (left_pick p) lines placed table)) none ∙ left_none p lines placed table same
   where
-    by_test : (e b x r : Bool) → ((e && b) && (same_answer x true && (r && not b))) ≡ false
+    by_test : (e b x r : Bool) → ((e && (beq x true && b)) && (r && not b)) ≡ false
     by_test false b x r = refl
-    by_test true false x r = refl
-    by_test true true false r = refl
+    by_test true b false r = refl
+    by_test true false true r = refl
     by_test true true true r = and-false r
 
     none : is_picked_at (left_pick p) lines placed t.term ≡ false
     none =
-        ap (λ (l : LineId). (is_on p.seg.0 t.term && is_of_line l t.term) && (same_answer (is_apart t.term) true && (is_left lines placed (beside_line p.left t.term) && not (is_of_line p.last t.term))))
+        ap (λ (l : LineId). (is_on p.seg.0 t.term && (beq (is_apart t.term) true && is_of_line l t.term)) && (is_left lines placed (beside_line p.left t.term) && not (is_of_line p.last t.term)))
         (line_is p.left p.last same)
         ∙ by_test (is_on p.seg.0 t.term) (is_of_line p.last t.term) (is_apart t.term) (is_left lines placed (beside_line p.left t.term))
 
 -- The picks of a placing, one after the other.
 
-pub picked_more : (c : Pick) (lines placed : List LineId) (terms old list more : List PartTerm) (i : ℕ) → i < length terms
-    → list ≡ old ++ filter (λ (t : PartTerm). is_picked c lines placed t.term) (take i terms)
-    → more ≡ list ++ cond (is_picked c lines placed (get_or terms i no_part_term).term) (get_or terms i no_part_term ∷ []) []
-    → more ≡ old ++ filter (λ (t : PartTerm). is_picked c lines placed t.term) (take (i + 1) terms)
-picked_more c lines placed terms old list more i below before pushed =
-    let own : PartTerm → Bool = λ t. is_picked c lines placed t.term in
-    let next : List PartTerm = get_or terms i no_part_term ∷ [] in
-    pushed ∙ ap (λ l. l ++ filter own next) before ∙ append_assoc old (filter own (take i terms)) (filter own next)
-    ∙ ap (λ l. old ++ l) (sym (ap (filter own) (take_more terms i no_part_term below) ∙ filter-append own (take i terms) next))
+picked_append : (c : Pick) (lines placed : List LineId) (terms : List PartTerm) (xs ys : List SpotTerm)
+    → picked_of c lines placed terms (xs ++ ys) ≡ picked_of c lines placed terms xs ++ picked_of c lines placed terms ys
+picked_append c lines placed terms [] ys = refl
+picked_append c lines placed terms (x ∷ xs) ys =
+    let own : List PartTerm = cond (is_picked_of c lines placed terms x) (term_of terms x ∷ []) [] in
+    ap (λ l. own ++ l) (picked_append c lines placed terms xs ys) ∙ sym (append_assoc own (picked_of c lines placed terms xs) (picked_of c lines placed terms ys))
+
+pub picked_more : (c : Pick) (lines placed : List LineId) (terms : List PartTerm) (some : List SpotTerm) (t : SpotTerm) (old list more : List PartTerm) (i : ℕ) → i < length some
+    → t ≡ get_or some i t → list ≡ old ++ picked_of c lines placed terms (take i some) → more ≡ list ++ cond (is_picked_of c lines placed terms t) (term_of terms t ∷ []) []
+    → more ≡ old ++ picked_of c lines placed terms (take (i + 1) some)
+picked_more c lines placed terms some t old list more i below is before pushed =
+    let first : List PartTerm = picked_of c lines placed terms (take i some) in
+    let next : List PartTerm = cond (is_picked_of c lines placed terms t) (term_of terms t ∷ []) [] in
+    pushed ∙ ap (λ l. l ++ next) before ∙ append_assoc old first next
+    ∙ ap (λ l. old ++ l)
+    (sym (ap (picked_of c lines placed terms) (take_more some i t below ∙ ap (λ (x : SpotTerm). take i some ++ x ∷ []) (sym is)) ∙ picked_append c lines placed terms (take i some) (t ∷ []) ∙ ap (λ l. first ++ l) (append-nil next)))
 
 abbrev pub of_pick : List (List LineId) → List (List LineId) → List PartTerm → Pick → List PartTerm
 of_pick segs placed table c = picked_terms c (lines_on segs c.spot.seg) (lines_on placed c.spot.seg) table

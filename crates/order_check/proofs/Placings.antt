@@ -1,4 +1,5 @@
 -- Terms that a placing does not change add and cost what they did before it.
+use mathlib.Core.Bool.{beq}
 use Rattle.std.proofs.Common.{◌≡◌, ◌≢◌, ℕ, suc, ◌+◌, ◌-◌, ◌<◌, ◌≤◌, ◌==◌, ◌&&◌, ◌||◌, not, Bool, true, false, cond, List, [], ◌∷◌, ◌++◌, length, set, get_or, refl, sym, ◌∙◌, ap, subst, arith, length-append, append_assoc, Option, Some, None, inl, inr, ◌⊎◌, true≢false, eqb-true, eq-eqb}
 use Rattle.std.specs.Prelude.{ℤ, pos, nat_lt, nat_le}
 use Rattle.std.specs.List.{All, Contains, find}
@@ -21,8 +22,8 @@ use Rattle.order_model.proofs.PrefixLemmas.{contains_placed, few_apart, apart_pu
 use Rattle.order_bound.specs.Decided.{apart_cost}
 use Rattle.order_bound.proofs.Completing.{on_placed}
 use Rattle.order_check.specs.Charges.{decided_charges, one_charge, looked, link_charges, charges_by}
-use Rattle.order_check.specs.Spots.{is_on, is_either, is_of_line}
-use Rattle.order_check.specs.Placings.{last_or, other_left, left_or, placing_of, other_than, is_picked, own_pick, last_pick, left_pick, changes}
+use Rattle.order_check.specs.Spots.{is_on, is_either, is_of_line, is_apart, other_than}
+use Rattle.order_check.specs.Placings.{last_or, other_left, left_or, placing_of, is_picked, own_pick, last_pick, left_pick, changes}
 
 -- More lines are placed behind the others.
 
@@ -563,9 +564,9 @@ module _ (segs placed after : List (List LineId)) (s : SegId) (a : LineId) (zs :
 
   -- a term of the segment that is not picked
   charges_kept : (t : Term) (here there : ℕ) (y : ℤ) → IsTerm segs t
-      → (is_of_line a t && is_picked (own_pick (placing_of segs placed s a)) (lines_on segs s) (lines_on placed s) t) ≡ false
-      → (is_of_line (last_or (lines_on placed s) a) t && is_picked (last_pick (placing_of segs placed s a)) (lines_on segs s) (lines_on placed s) t) ≡ false
-      → (is_of_line (left_or (lines_on segs s) (lines_on placed s) a) t && is_picked (left_pick (placing_of segs placed s a)) (lines_on segs s) (lines_on placed s) t) ≡ false
+      → ((beq (is_apart t) false && is_of_line a t) && is_picked (own_pick (placing_of segs placed s a)) (lines_on segs s) (lines_on placed s) t) ≡ false
+      → ((beq (is_apart t) true && is_of_line (last_or (lines_on placed s) a) t) && is_picked (last_pick (placing_of segs placed s a)) (lines_on segs s) (lines_on placed s) t) ≡ false
+      → ((beq (is_apart t) true && is_of_line (left_or (lines_on segs s) (lines_on placed s) a) t) && is_picked (left_pick (placing_of segs placed s a)) (lines_on segs s) (lines_on placed s) t) ≡ false
       → charges_by segs after t here there y ≡ charges_by segs placed t here there y
   charges_kept (Side seg first second w) here there y fits own lasts lefts =
       let kept = order_on seg first second fits.first_on fits.second_on fits.differ own in
@@ -608,6 +609,15 @@ same_charges segs placed after s a t here there y below ok on free is fits none 
     before : List LineId
     before = lines_on placed s
 
+    at_line : Bool
+    at_line = beq (is_apart t) false && is_of_line a t
+
+    at_last : Bool
+    at_last = beq (is_apart t) true && is_of_line (last_or before a) t
+
+    at_left : Bool
+    at_left = beq (is_apart t) true && is_of_line (left_or lines before a) t
+
     own : Bool
     own = is_picked (own_pick (placing_of segs placed s a)) lines before t
 
@@ -620,9 +630,9 @@ same_charges segs placed after s a t here there y below ok on free is fits none 
     by : (b : Bool) → is_on s.0 t ≡ b → charges_by segs after t here there y ≡ charges_by segs placed t here there y
     by false e = ap (λ (p : List (List LineId)). charges_by segs p t here there y) is ∙ elsewhere segs placed s.0 (with_line lines before a) t here there y e
     by true e =
-        let none_of : ((is_of_line a t && own) || ((is_of_line (last_or before a) t && lasts) || (is_of_line (left_or lines before a) t && lefts))) ≡ false =
-        subst (λ b. (((b && is_of_line a t) && own) || (((b && is_of_line (last_or before a) t) && lasts) || ((b && is_of_line (left_or lines before a) t) && lefts))) ≡ false) e none in
-        let one = or_parts (is_of_line a t && own) ((is_of_line (last_or before a) t && lasts) || (is_of_line (left_or lines before a) t && lefts)) none_of in
-        let two = or_parts (is_of_line (last_or before a) t && lasts) (is_of_line (left_or lines before a) t && lefts) one.1 in
+        let none_of : ((at_line && own) || ((at_last && lasts) || (at_left && lefts))) ≡ false =
+        subst (λ b. (((b && at_line) && own) || (((b && at_last) && lasts) || ((b && at_left) && lefts))) ≡ false) e none in
+        let one = or_parts (at_line && own) ((at_last && lasts) || (at_left && lefts)) none_of in
+        let two = or_parts (at_last && lasts) (at_left && lefts) one.1 in
         let next = behind lines before a free in
         charges_kept segs placed after s a next.0 below (is ∙ ap (set placed s.0) next.1.more) next.1 ok on free t here there y fits one.0 two.0 two.1

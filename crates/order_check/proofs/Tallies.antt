@@ -1,7 +1,7 @@
 -- The tally of a part's terms, once those that a placing may change are taken off or put on, and where lines are placed.
 use Rattle.std.proofs.Common.{◌≡◌, ℕ, ◌+◌, ◌-◌, ◌*◌, ◌<◌, ◌≤◌, ◌++◌, append-nil, Bool, true, false, cond, List, [], length, map, set, get_or, refl, sym, ◌∙◌, ap, subst, arith, Some, None}
 use Rattle.std.specs.Prelude.{ℤ, pos, ◌+ℤ◌, unsigned_abs, position}
-use Rattle.std.specs.List.{sum_by, filter, Contains}
+use Rattle.std.specs.List.{sum_by, Contains}
 use Rattle.std.proofs.lemmas.Int.{ints}
 use Rattle.map_base.specs.declared.ids.SegId.{SegId}
 use Rattle.map_base.specs.declared.ids.LineId.{LineId}
@@ -16,14 +16,15 @@ use Rattle.order_check.specs.declared.slot.SlotCost.{SlotCost}
 use Rattle.order_check.specs.declared.slot.Charges.{Charges}
 use Rattle.order_check.specs.declared.slot.Sums.{Sums}
 use Rattle.order_check.specs.declared.spot.Spot.{Spot}
+use Rattle.order_check.specs.declared.spot.SpotTerm.{SpotTerm}
 use Rattle.order_check.specs.declared.placing.Placing.{Placing}
 use Rattle.order_check.specs.declared.picking.Pick.{Pick}
 use Rattle.order_check.specs.declared.asked.Asked.{Asked}
 use Rattle.order_check.specs.Asking.{IsAsked}
 use Rattle.order_check.specs.Slots.{plain_term, cost_at, charge_on}
 use Rattle.order_check.specs.Charging.{no_part_term}
-use Rattle.order_check.specs.Spots.{is_at, is_spot, term_lists}
-use Rattle.order_check.specs.Placings.{placing_of, is_picked, changes, picked_terms, changed_terms}
+use Rattle.order_check.specs.Spots.{is_spot, term_lists, terms_at}
+use Rattle.order_check.specs.Placings.{placing_of, picked_of, changes, picked_terms, changed_terms}
 use Rattle.order_check.specs.Counting.{added_by, decided_of, shifted, least_sum, AreSmallCosts, AreThose, ArePicked, IsTally, IsTallyWithout}
 use Rattle.order_check.proofs.SignedSums.{sums_by_place}
 use Rattle.order_check.proofs.Charging.{decided_is}
@@ -143,21 +144,21 @@ tally_first asked placed sums clear costs each none decided least shift = record
 -- Terms are picked spot by spot.
 
 -- the terms that a spot lists
-pub spot_list : (asked : Asked) (ok : IsAsked asked) (u : Spot) (k : ℕ) (list : List PartTerm) → position (is_spot u) asked.table.now.spots.spots.keys ≡ Some k
-    → list ≡ get_or (term_lists asked.table.now.spots.lists.items) k [] → list ≡ filter (λ (t : PartTerm). is_at u t.term) asked.table.now.terms.items
+pub spot_list : (asked : Asked) (ok : IsAsked asked) (u : Spot) (k : ℕ) (list : List SpotTerm) → position (is_spot u) asked.table.now.spots.spots.keys ≡ Some k
+    → list ≡ get_or (term_lists asked.table.now.spots.lists.items) k [] → list ≡ terms_at u 0 asked.table.now.terms.items
 spot_list asked ok u k list found is =
     is ∙ sym (listed_at asked.table.now.spots.spots.keys (term_lists asked.table.now.spots.lists.items) u k ok.spots.each found) ∙ ok.spots.at u
 
 -- a spot that lists none
 pub spot_none : (asked : Asked) (ok : IsAsked asked) (u : Spot) → position (is_spot u) asked.table.now.spots.spots.keys ≡ None
-    → filter (λ (t : PartTerm). is_at u t.term) asked.table.now.terms.items ≡ []
+    → terms_at u 0 asked.table.now.terms.items ≡ []
 spot_none asked ok u none = sym (ok.spots.at u) ∙ listed_none asked.table.now.spots.spots.keys (term_lists asked.table.now.spots.lists.items) u ok.spots.each none
 
 -- what a pick picks there, and where a spot lists none
-pub picked_at_spot : (asked : Asked) (c : Pick) (lines placed : List LineId) (old list terms : List PartTerm) → terms ≡ filter (λ (t : PartTerm). is_at c.spot t.term) asked.table.now.terms.items
-    → list ≡ old ++ filter (λ (t : PartTerm). is_picked c lines placed t.term) terms → list ≡ old ++ picked_terms c lines placed asked.table.now.terms.items
-picked_at_spot asked c lines placed old list terms listed added =
-    added ∙ ap (λ l. old ++ filter (λ (t : PartTerm). is_picked c lines placed t.term) l) listed ∙ ap (λ l. old ++ l) (picked_of_spot c lines placed asked.table.now.terms.items)
+pub picked_at_spot : (asked : Asked) (c : Pick) (lines placed : List LineId) (old list : List PartTerm) (some : List SpotTerm) → some ≡ terms_at c.spot 0 asked.table.now.terms.items
+    → list ≡ old ++ picked_of c lines placed asked.table.now.terms.items some → list ≡ old ++ picked_terms c lines placed asked.table.now.terms.items
+picked_at_spot asked c lines placed old list some listed added =
+    added ∙ ap (λ l. old ++ picked_of c lines placed asked.table.now.terms.items l) listed ∙ ap (λ l. old ++ l) (picked_of_spot c lines placed asked.table.now.terms.items)
 
 pub picked_nowhere : (asked : Asked) (c : Pick) (lines placed : List LineId) (old : List PartTerm) → IsAsked asked → position (is_spot c.spot) asked.table.now.spots.spots.keys ≡ None
     → old ≡ old ++ picked_terms c lines placed asked.table.now.terms.items

@@ -1,8 +1,11 @@
 -- What the terms of a part come to with no prices, as it is kept while lines are placed.
-use Rattle.std.specs.Prelude.{◌≡◌, ℕ, ◌+◌, ◌<◌, ◌≤◌, Bool, true, false, List, length, map, sum_by, if◌then◌else◌}
+use Rattle.std.specs.Prelude.{◌≡◌, ℕ, ◌+◌, ◌<◌, ◌≤◌, Bool, true, false, List, length, map, sum_by, slice_set, if◌then◌else◌}
 use Rattle.std.specs.Prelude.{ℤ, pos, ◌+ℤ◌, ◌-ℤ◌, unsigned_abs}
+use Rattle.map_base.specs.declared.ids.SegId.{SegId}
 use Rattle.map_base.specs.declared.ids.LineId.{LineId}
 use Rattle.order_model.specs.declared.term.Term.{Term}
+use Rattle.order_model.specs.Problems.{lines_on}
+use Rattle.order_model.specs.Prefixes.{without_last}
 use Rattle.order_bound.specs.Decided.{decided_cost, decided_sum}
 use Rattle.order_bound.specs.Values.{least_answer}
 use Rattle.whole_sums.specs.Sums.{int_sum}
@@ -65,3 +68,11 @@ pub record IsTallyWithout (some : List PartTerm) (asked : Asked) (placed : List 
   pub slots : (k : ℕ) → k < length costs → (x : Bool)
       → cost_at costs k x +ℤ int_sum (added_by asked.problem.now.segs placed k x) some ≡ int_sum (added_by asked.problem.now.segs placed k x) asked.table.now.terms.items
   pub least : sums.least ≡ least_sum costs
+
+-- beside these terms a tally for the one prefix is one for the other
+abbrev pub IsSameBeside : List PartTerm → Asked → List (List LineId) → List (List LineId) → Type 0
+IsSameBeside some asked before after = (sums : Sums) (costs : List SlotCost) → IsTallyWithout some asked before sums costs → IsTallyWithout some asked after sums costs
+
+-- the lines placed once the last placing on a segment is taken back
+abbrev pub placed_less : List (List LineId) → List (List LineId) → SegId → List (List LineId)
+placed_less segs placed s = slice_set placed s.0 (without_last (lines_on segs s) (lines_on placed s))

@@ -1,17 +1,17 @@
 -- The terms that a placing may change.
-use Rattle.std.specs.Prelude.{◌+◌, ◌-◌, ◌==◌, nat_le, Bool, true, false, ◌&&◌, ◌||◌, not, List, [], ◌∷◌, ◌++◌, length, find, filter, Option, Some, None, unwrap_or, slice_index_or, if◌then◌else◌}
+use Rattle.std.specs.Prelude.{◌+◌, ◌-◌, nat_le, Bool, true, false, ◌&&◌, ◌||◌, not, List, [], ◌∷◌, ◌++◌, length, find, filter, Option, Some, None, unwrap_or, slice_index_or, if◌then◌else◌}
 use Rattle.map_base.specs.declared.ids.SegId.{SegId}
 use Rattle.map_base.specs.declared.ids.LineId.{LineId}
 use Rattle.order_model.specs.declared.term.Term.{Term}
-use Rattle.order_model.specs.declared.term.Term.TheVariants.{Side, Link, Apart}
 use Rattle.order_model.specs.Problems.{lines_on}
-use Rattle.order_model.specs.Costs.{same_answer}
 use Rattle.order_model.specs.Prefixes.{is_unplaced, is_left}
 use Rattle.order_check.specs.declared.slot.PartTerm.{PartTerm}
 use Rattle.order_check.specs.declared.placing.Placing.{Placing}
 use Rattle.order_check.specs.declared.picking.Pick.{Pick}
 use Rattle.order_check.specs.declared.spot.Spot.{Spot}
-use Rattle.order_check.specs.Spots.{is_apart, is_of_line, is_at}
+use Rattle.order_check.specs.declared.spot.SpotTerm.{SpotTerm}
+use Rattle.order_check.specs.Charging.{no_part_term}
+use Rattle.order_check.specs.Spots.{is_of_line, is_at, beside_line}
 
 -- the last of these lines, or another where there is none
 abbrev pub last_or : List LineId → LineId → LineId
@@ -34,29 +34,31 @@ placing_of segs placed s a = record {
   left = left_or (lines_on segs s) (lines_on placed s) a;
 }
 
--- the spot of a line on its segment
-abbrev pub spot_on : Placing → LineId → Spot
-spot_on p a = record { seg = p.seg; line = a }
-
--- of two lines the other one than this
-abbrev pub other_than : LineId → LineId → LineId → LineId
-other_than a b line = if a.0 == line.0 then b else a
-
--- the other line of a term that has this one
-abbrev pub beside_line : LineId → Term → LineId
-beside_line line (Side seg first second w) = other_than first second line
-beside_line line (Link seg other flip a b w) = other_than a b line
-beside_line line (Apart seg other a b w) = other_than a b line
+-- the spot of a line's Aparts on its segment, or of its other terms there
+abbrev pub spot_on : Placing → Bool → LineId → Spot
+spot_on p apart a = record { seg = p.seg; apart = apart; line = a }
 
 -- the term has the line, if there is one
 abbrev pub is_of_any : Option LineId → Term → Bool
 is_of_any None t = false
 is_of_any (Some line) t = is_of_line line t
 
--- the terms that a pick picks, where these lines of the segment are placed: of its kind, their other line left, and not of
--- the line that is left out
+-- the terms that a pick picks of those at its spot, where these lines of the segment are placed: their other line left, and
+-- not of the line that is left out
 abbrev pub is_picked : Pick → List LineId → List LineId → Term → Bool
-is_picked c lines placed t = same_answer (is_apart t) c.apart && (is_left lines placed (beside_line c.spot.line t) && not (is_of_any c.but t))
+is_picked c lines placed t = is_left lines placed (beside_line c.spot.line t) && not (is_of_any c.but t)
+
+-- the same of a term there by its place among these
+abbrev pub term_of : List PartTerm → SpotTerm → PartTerm
+term_of terms t = slice_index_or terms t.place no_part_term
+
+abbrev pub is_picked_of : Pick → List LineId → List LineId → List PartTerm → SpotTerm → Bool
+is_picked_of c lines placed terms t = is_left lines placed t.other && not (is_of_any c.but (term_of terms t).term)
+
+-- what a pick picks of the terms there
+abbrev pub picked_of : Pick → List LineId → List LineId → List PartTerm → List SpotTerm → List PartTerm
+picked_of c lines placed terms [] = []
+picked_of c lines placed terms (t ∷ some) = (if is_picked_of c lines placed terms t then term_of terms t ∷ [] else []) ++ picked_of c lines placed terms some
 
 -- the same of all terms of a part
 abbrev pub is_picked_at : Pick → List LineId → List LineId → Term → Bool
@@ -65,13 +67,13 @@ is_picked_at c lines placed t = is_at c.spot t && is_picked c lines placed t
 -- the picks of a placing: by which its line stands before another; the Aparts of the line that is placed last, and of another
 -- one that is left
 abbrev pub own_pick : Placing → Pick
-own_pick p = record { spot = spot_on p p.line; apart = false; but = None }
+own_pick p = record { spot = spot_on p false p.line; but = None }
 
 abbrev pub last_pick : Placing → Pick
-last_pick p = record { spot = spot_on p p.last; apart = true; but = None }
+last_pick p = record { spot = spot_on p true p.last; but = None }
 
 abbrev pub left_pick : Placing → Pick
-left_pick p = record { spot = spot_on p p.left; apart = true; but = Some p.last }
+left_pick p = record { spot = spot_on p true p.left; but = Some p.last }
 
 -- the terms that it may change
 abbrev pub changes : Placing → List LineId → List LineId → Term → Bool

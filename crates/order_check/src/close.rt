@@ -14,6 +14,7 @@ use order_values::Prices;
 
 /// Whether a Close holds: its prices are allowed, and their value is at least the target. The tally is that of the prefix,
 /// and is left as it was.
+#[inline(never)]
 pub(crate) fn is_closed(
     asked: &Asked,
     prefix: &Prefix,

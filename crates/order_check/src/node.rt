@@ -17,6 +17,7 @@ use order_proof::Tree;
 
 /// Whether a Split holds: its segment is of the part, and its lines, no two of which are the same, are those that are not
 /// placed, one at least.
+#[inline(never)]
 pub(crate) fn is_split(
     asked: &Asked,
     prefix: &Prefix,

@@ -22,7 +22,7 @@ pub(crate) struct PartTable {
     pub(crate) terms: Vec<PartTerm>,
     /// The slots.
     pub(crate) slots: IndexSet<Slot>,
-    /// The terms by segment and line.
+    /// The terms by segment, kind and line.
     pub(crate) spots: SpotTable,
 }
 
@@ -44,7 +44,8 @@ pub(crate) fn part_table(
     let mut spots = no_spots(alloc);
     for n in numbers {
         let entry = part_term(&mut slots, *n, terms[*n as usize])?;
-        list_term(alloc, &mut spots, entry)?;
+        let place = next_place(entries.as_slice());
+        list_term(alloc, &mut spots, place, entry.term)?;
         entries.push(entry)?;
     }
     Ok(PartTable {
@@ -52,6 +53,14 @@ pub(crate) fn part_table(
         slots,
         spots,
     })
+}
+
+/// The place behind these terms.
+fn next_place(terms: &[PartTerm]) -> u32
+    requires { length terms.now ≤ 4000000 }
+    ensures { result ≡ length terms.now }
+{
+    terms.len() as u32
 }
 
 /// A term with the slots at its ends, which are noted.

@@ -1,29 +1,28 @@
 //! The terms that a placing may change, picked from those of its lines.
 
-ghost use Rattle.std.specs.Prelude.{◌≡◌, ◌<◌, ◌++◌, [], ◌∷◌, length, filter, IfOk, OnOk, if◌then◌else◌};
+ghost use Rattle.std.specs.Prelude.{◌≡◌, ◌<◌, ◌++◌, [], ◌∷◌, length, filter, All, IfOk, OnOk, if◌then◌else◌};
 ghost use Rattle.order_model.specs.Problems.{lines_on};
 ghost use Rattle.order_model.specs.Prefixes.{IsPrefixOf};
 ghost use Rattle.order_check.specs.declared.slot.PartTerm.{PartTerm};
+ghost use Rattle.order_check.specs.declared.spot.SpotTerm.{SpotTerm};
 ghost use Rattle.order_check.specs.Asking.{IsAsked};
-ghost use Rattle.order_check.specs.Spots.{is_apart, is_of_line};
-ghost use Rattle.order_check.specs.Placings.{other_than, beside_line, is_of_any, is_picked, is_picked_at, own_pick, last_pick, left_pick, changed_terms};
+ghost use Rattle.order_check.specs.Spots.{is_of_line};
+ghost use Rattle.order_check.specs.Placings.{is_of_any, is_picked_at, is_picked_of, picked_of, term_of, own_pick, last_pick, left_pick, changed_terms};
 
 use crate::asked::Asked;
 use crate::placing::Placing;
 use crate::slot::PartTerm;
-use crate::spot::{Spot, place_of};
+use crate::spot::{Spot, SpotTerm, place_of};
 use map_base::{LineId, NoMemory};
 use order_model::{Prefix, Problem, Term};
 use std::alloc::Global;
 
-/// Which terms are picked of those at a spot: the Aparts there, or else the others, whose other line is left; but none
-/// of a line whose terms were picked before.
+/// Which terms are picked of those at a spot: those whose other line is left; but none of a line whose terms were picked
+/// before.
 #[derive(Clone, Copy, Debug)]
 pub(crate) struct Pick {
-    /// The segment and the line.
+    /// The spot.
     pub(crate) spot: Spot,
-    /// Whether Aparts are picked.
-    pub(crate) apart: bool,
     /// The line whose terms are not picked, if there is one.
     pub(crate) but: Option<LineId>,
 }
@@ -31,6 +30,7 @@ pub(crate) struct Pick {
 /// The terms that a placing may change. Which of two lines stands first is decided by it where one of them is its own line,
 /// and the other one is left. Whether two lines are neighbours is settled by it where one is the line that is placed last
 /// before it, and the other one is left; and where just two lines are left once it is placed, for these two.
+#[inline(never)]
 pub(crate) fn changed_terms(
     alloc: Global,
     asked: &Asked,
@@ -60,9 +60,9 @@ fn own_pick(placing: Placing) -> Pick
     Pick {
         spot: Spot {
             seg: placing.seg,
+            apart: false,
             line: placing.line,
         },
-        apart: false,
         but: None,
     }
 }
@@ -74,9 +74,9 @@ fn last_pick(placing: Placing) -> Pick
     Pick {
         spot: Spot {
             seg: placing.seg,
+            apart: true,
             line: placing.last,
         },
-        apart: true,
         but: None,
     }
 }
@@ -88,9 +88,9 @@ fn left_pick(placing: Placing) -> Pick
     Pick {
         spot: Spot {
             seg: placing.seg,
+            apart: true,
             line: placing.left,
         },
-        apart: true,
         but: Some(placing.last),
     }
 }
@@ -109,11 +109,12 @@ fn add_terms(
         (lines_on asked.now.problem.now.segs pick.spot.seg) (lines_on prefix.now.placed pick.spot.seg) t.term) asked.now.table.now.terms.items) }
 {
     let table = &asked.table.spots;
+    let terms = asked.table.terms.as_slice();
     match place_of(table, pick.spot) {
         None => Ok(()),
         Some(k) => {
-            let terms = table.lists[k].as_slice();
-            add_picked(asked.problem, prefix, pick, terms, list)?;
+            let some = table.lists[k].as_slice();
+            add_picked(asked.problem, prefix, pick, terms, some, list)?;
             Ok(())
         }
     }
@@ -125,78 +126,59 @@ fn add_picked(
     prefix: &Prefix,
     pick: Pick,
     terms: &[PartTerm],
+    some: &[SpotTerm],
     list: &mut Vec<PartTerm>,
 ) -> Result<(), NoMemory>
     requires fits { IsPrefixOf problem.now.segs prefix.now }
     requires seg { pick.spot.seg.0 < length problem.now.segs }
-    ensures { OnOk result (list.new.items ≡ list.old.items ++ filter (λ (t : PartTerm). is_picked pick
-        (lines_on problem.now.segs pick.spot.seg) (lines_on prefix.now.placed pick.spot.seg) t.term) terms.now) }
+    requires within { All (λ (t : SpotTerm). t.place < length terms.now) some.now }
+    ensures { OnOk result (list.new.items ≡ list.old.items ++ picked_of pick (lines_on problem.now.segs pick.spot.seg)
+        (lines_on prefix.now.placed pick.spot.seg) terms.now some.now) }
 {
-    for i in 0..terms.len() {
-        add_if_picked(problem, prefix, pick, terms[i], list)?;
+    for i in 0..some.len() {
+        add_if_picked(problem, prefix, pick, terms, some[i], list)?;
     }
     Ok(())
 }
 
-/// Adds a term if it is picked.
+/// Adds a term at its spot if it is picked.
 fn add_if_picked(
     problem: &Problem,
     prefix: &Prefix,
     pick: Pick,
-    t: PartTerm,
+    terms: &[PartTerm],
+    t: SpotTerm,
     list: &mut Vec<PartTerm>,
 ) -> Result<(), NoMemory>
     requires fits { IsPrefixOf problem.now.segs prefix.now }
     requires seg { pick.spot.seg.0 < length problem.now.segs }
-    ensures { OnOk result (list.new.items ≡ list.old.items ++ (if is_picked pick (lines_on problem.now.segs pick.spot.seg)
-        (lines_on prefix.now.placed pick.spot.seg) t.term then t ∷ [] else [])) }
+    requires within { t.place < length terms.now }
+    ensures { OnOk result (list.new.items ≡ list.old.items ++ (if is_picked_of pick (lines_on problem.now.segs pick.spot.seg)
+        (lines_on prefix.now.placed pick.spot.seg) terms.now t then term_of terms.now t ∷ [] else [])) }
 {
-    if is_picked(problem, prefix, pick, t.term) {
-        list.push(t)?;
+    if is_picked(problem, prefix, pick, terms, t) {
+        list.push(terms[t.place as usize])?;
     }
     Ok(())
 }
 
 /// Whether a term at its spot is picked.
-fn is_picked(problem: &Problem, prefix: &Prefix, pick: Pick, term: Term) -> bool
+fn is_picked(
+    problem: &Problem,
+    prefix: &Prefix,
+    pick: Pick,
+    terms: &[PartTerm],
+    t: SpotTerm,
+) -> bool
     requires fits { IsPrefixOf problem.now.segs prefix.now }
     requires seg { pick.spot.seg.0 < length problem.now.segs }
-    ensures { result ≡ is_picked pick (lines_on problem.now.segs pick.spot.seg) (lines_on prefix.now.placed pick.spot.seg) term }
+    requires within { t.place < length terms.now }
+    ensures { result ≡ is_picked_of pick (lines_on problem.now.segs pick.spot.seg) (lines_on prefix.now.placed pick.spot.seg) terms.now t }
 {
-    if is_apart(term) != pick.apart {
+    if !prefix.is_left(problem, pick.spot.seg, t.other) {
         return false;
     }
-    if !prefix.is_left(problem, pick.spot.seg, beside_line(pick.spot.line, term)) {
-        return false;
-    }
-    !is_of_any(pick.but, term)
-}
-
-/// Whether a term is an Apart.
-fn is_apart(term: Term) -> bool
-    ensures { result ≡ is_apart term }
-{
-    match term {
-        Term::Apart { .. } => true,
-        Term::Side { .. } | Term::Link { .. } => false,
-    }
-}
-
-/// The other line of a term that has this one.
-fn beside_line(line: LineId, term: Term) -> LineId
-    ensures { result ≡ beside_line line term }
-{
-    match term {
-        Term::Side { first, second, .. } => other_than(first, second, line),
-        Term::Link { a, b, .. } | Term::Apart { a, b, .. } => other_than(a, b, line),
-    }
-}
-
-/// Of two lines the other one than this.
-fn other_than(a: LineId, b: LineId, line: LineId) -> LineId
-    ensures { result ≡ other_than a b line }
-{
-    if a.0 == line.0 { b } else { a }
+    !is_of_any(pick.but, terms[t.place as usize].term)
 }
 
 /// Whether a term has a line, if there is one.

@@ -23,6 +23,7 @@ pub(crate) struct Placing {
 }
 
 /// The placing of a line that is next on a segment.
+#[inline(never)]
 pub(crate) fn placing_of(problem: &Problem, prefix: &Prefix, seg: SegId, line: LineId) -> Placing
     requires fits { IsPrefixOf problem.now.segs prefix.now }
     requires seg { seg.0 < length problem.now.segs }

@@ -1,13 +1,17 @@
 //! What the terms of a part come to with no prices, kept while lines are placed: the sum of the decided terms, the table of
 //! slots, and the sum over them.
 
-ghost use Rattle.order_model.specs.Prefixes.{IsPrefixOf};
+ghost use Rattle.std.specs.Prelude.{◌≡◌, ◌<◌, length, false, Contains};
+ghost use Rattle.order_model.specs.Problems.{lines_on};
+ghost use Rattle.order_model.specs.Prefixes.{first_placed, is_placed, IsPrefixOf};
+ghost use Rattle.order_model.specs.Completions.{placed_more};
 ghost use Rattle.order_check.specs.Asking.{IsAsked, HasTable};
-ghost use Rattle.order_check.specs.Counting.{ArePicked, IsTally, IsTallyWithout};
+ghost use Rattle.order_check.specs.Counting.{placed_less, ArePicked, IsTally, IsTallyWithout, IsSameBeside};
 
 use crate::asked::Asked;
 use crate::slot::{PartTerm, SlotCost, Sums};
 use crate::slot_costs::{clear, count};
+use map_base::{LineId, SegId};
 use order_model::Prefix;
 
 /// The tally of all terms, whatever stood in the table.
@@ -22,8 +26,64 @@ pub(crate) fn first_tally(asked: &Asked, prefix: &Prefix, costs: &mut [SlotCost]
     count(asked.problem, prefix, terms, costs, 0, false)
 }
 
+/// Places a line, and answers the tally after it. The terms that this may change are taken off, and put on again.
+#[inline(never)]
+pub(crate) fn place_line(
+    asked: &Asked,
+    prefix: &mut Prefix,
+    some: &[PartTerm],
+    sums: Sums,
+    costs: &mut [SlotCost],
+    seg: SegId,
+    line: LineId,
+) -> Sums
+    requires asked { IsAsked asked.now }
+    requires fits { IsPrefixOf asked.now.problem.now.segs prefix.old }
+    requires seg { seg.0 < length asked.now.problem.now.segs }
+    requires line { Contains (lines_on asked.now.problem.now.segs seg) line }
+    requires unplaced { is_placed (lines_on prefix.old.placed seg) line ≡ false }
+    requires table { HasTable asked.now costs.old }
+    requires picked { ArePicked asked.now some.now }
+    requires same { IsSameBeside some.now asked.now prefix.old.placed (placed_more asked.now.problem.now.segs prefix.old.placed seg line) }
+    requires tally { IsTally asked.now prefix.old.placed sums costs.old }
+    ensures fits { IsPrefixOf asked.now.problem.now.segs prefix.new }
+    ensures placed { prefix.new.placed ≡ placed_more asked.now.problem.now.segs prefix.old.placed seg line }
+    ensures tally { IsTally asked.now prefix.new.placed result costs.new }
+{
+    let beside = take_off(asked, prefix, some, sums, costs);
+    prefix.place(asked.problem, seg, line);
+    put_on(asked, prefix, some, beside, costs)
+}
+
+/// Takes back what the last placing on a segment placed, in the same way.
+#[inline(never)]
+pub(crate) fn take_line_back(
+    asked: &Asked,
+    prefix: &mut Prefix,
+    some: &[PartTerm],
+    sums: Sums,
+    costs: &mut [SlotCost],
+    seg: SegId,
+) -> Sums
+    requires asked { IsAsked asked.now }
+    requires fits { IsPrefixOf asked.now.problem.now.segs prefix.old }
+    requires seg { seg.0 < length asked.now.problem.now.segs }
+    requires some { length (first_placed (lines_on asked.now.problem.now.segs seg)) < length (lines_on prefix.old.placed seg) }
+    requires table { HasTable asked.now costs.old }
+    requires picked { ArePicked asked.now some.now }
+    requires same { IsSameBeside some.now asked.now prefix.old.placed (placed_less asked.now.problem.now.segs prefix.old.placed seg) }
+    requires tally { IsTally asked.now prefix.old.placed sums costs.old }
+    ensures fits { IsPrefixOf asked.now.problem.now.segs prefix.new }
+    ensures placed { prefix.new.placed ≡ placed_less asked.now.problem.now.segs prefix.old.placed seg }
+    ensures tally { IsTally asked.now prefix.new.placed result costs.new }
+{
+    let beside = take_off(asked, prefix, some, sums, costs);
+    prefix.take_back(asked.problem, seg);
+    put_on(asked, prefix, some, beside, costs)
+}
+
 /// Takes some terms of the part off the tally of all.
-pub(crate) fn take_off(
+fn take_off(
     asked: &Asked,
     prefix: &Prefix,
     some: &[PartTerm],
@@ -45,7 +105,7 @@ pub(crate) fn take_off(
 }
 
 /// Puts them onto the tally of the others.
-pub(crate) fn put_on(
+fn put_on(
     asked: &Asked,
     prefix: &Prefix,
     some: &[PartTerm],

@@ -1,4 +1,5 @@
-//! The walk over a tree, node by node in the order of the text.
+//! The walk over a tree, node by node in the order of the text. What it calls beside itself is not merged into it, so that
+//! a level of the tree takes little of the stack.
 
 ghost use Rattle.std.specs.Prelude.{◌≡◌, ◌<◌, length, true, false, Contains, IfOk};
 ghost use Rattle.order_model.specs.Problems.{lines_on};
@@ -18,7 +19,7 @@ use crate::node::is_split;
 use crate::picking::changed_terms;
 use crate::placing::placing_of;
 use crate::slot::{SlotCost, Sums};
-use crate::tally::{put_on, take_off};
+use crate::tally::{place_line, take_line_back};
 use map_base::{LineId, NoMemory, SegId};
 use order_model::Prefix;
 use order_proof::Tree;
@@ -124,8 +125,7 @@ fn walk_cases(
     Ok(true)
 }
 
-/// The same of one case, whose line is placed while its tree is walked. The terms that this may change are picked once;
-/// they are taken off the tally, and put on again once the line is placed; and so where it is taken back.
+/// The same of one case, whose line is placed while its tree is walked. The terms that this may change are picked once.
 #[cycle(walk)]
 fn walk_case(
     alloc: Global,
@@ -156,13 +156,9 @@ fn walk_case(
     let placing = placing_of(asked.problem, prefix, seg, line);
     let changed = changed_terms(alloc, asked, prefix, placing)?;
     let some = changed.as_slice();
-    let beside = take_off(asked, prefix, some, sums, costs);
-    prefix.place(asked.problem, seg, line);
-    let after = put_on(asked, prefix, some, beside, costs);
+    let after = place_line(asked, prefix, some, sums, costs, seg, line);
     let outcome = walk(alloc, asked, prefix, after, costs, way, tree);
-    let left = take_off(asked, prefix, some, after, costs);
-    prefix.take_back(asked.problem, seg);
-    let _same = put_on(asked, prefix, some, left, costs);
+    let _same = take_line_back(asked, prefix, some, after, costs, seg);
     if !outcome? {
         return Ok(false);
     }

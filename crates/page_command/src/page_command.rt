@@ -15,6 +15,7 @@ use run_status::{Input, Refusal};
 use std::alloc::Global;
 
 /// Makes the page at a path of a command's map, which has to be there.
+#[inline(never)]
 pub fn show_map<F: Files>(
     alloc: Global,
     inputs: &Inputs<'_>,

@@ -24,6 +24,7 @@ use transit_feed::Tables;
 
 /// Makes a picture of a command's feed, at this path, by the command's certificate. The line graph is built first, and then
 /// the certificate is read and checked.
+#[inline(never)]
 pub fn draw_picture<F: Files>(
     alloc: Global,
     inputs: &Inputs<'_>,

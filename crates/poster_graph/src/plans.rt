@@ -15,7 +15,7 @@ use crate::texts::{Texts, printed_at, width_with};
 use graph_core::{LineGraph, NodeKind};
 use map_base::{NoMemory, NodeId, SegId, Sequence};
 use octi_grid::{Drawing, GridPoint, Walk, run_end};
-use poster_plan::{Mark, Piece, Plan};
+use poster_plan::{Mark, Piece, Plan, TextWidth};
 use std::alloc::Global;
 use svg_writer::{ends_of, first_of, put_at, round_of};
 
@@ -75,7 +75,8 @@ fn put_kind(
 {
     match kind {
         NodeKind::Station(_) => {
-            let mark = mark_of(alloc, served, texts, n)?;
+            let name = name_width(alloc, served, texts, n)?;
+            let mark = mark_of(served, n, name)?;
             marks.push(mark)?;
             Ok(())
         }
@@ -83,20 +84,14 @@ fn put_kind(
     }
 }
 
-/// A station node as a poster has it.
-fn mark_of(
-    alloc: Global,
-    served: Served<'_>,
-    texts: &Texts<'_>,
-    n: NodeId,
-) -> Result<Mark, NoMemory>
+/// A station node as a poster has it, where what is printed of it is so wide.
+fn mark_of(served: Served<'_>, n: NodeId, name: Option<TextWidth>) -> Result<Mark, NoMemory>
     requires graph { IsConsistent served.graph.now }
-    requires texts { AreTextsOf served.names.now served.graph.now texts.now }
+    requires name { name ≡ name_width served.names.now served.graph.now served.callers.now n.0 (printed_at served.graph.now (all_rests served.names.now served.graph.now) n.0) }
     ensures { IfOk result (λ mark. (s : StationId) → mark ∷ [] ≡ node_mark served.entry.names.now served.entry.graph.now served.entry.drawing.now.walks served.entry.callers.now n.0 (Station s)) }
 {
     let at = point_of(served.graph, served.drawing, n);
     let radius = radius_at(served, n)?;
-    let name = name_width(alloc, served, texts, n)?;
     let level = leaves_level(served, n);
     Ok(Mark {
         node: n,
@@ -113,7 +108,7 @@ fn name_width(
     served: Served<'_>,
     texts: &Texts<'_>,
     n: NodeId,
-) -> Result<Option<u32>, NoMemory>
+) -> Result<Option<TextWidth>, NoMemory>
     requires graph { IsConsistent served.graph.now }
     requires texts { AreTextsOf served.names.now served.graph.now texts.now }
     ensures { IfOk result (λ width. width ≡ name_width served.entry.names.now served.entry.graph.now served.entry.callers.now n.0 (printed_at served.entry.graph.now (all_rests served.entry.names.now served.entry.graph.now) n.0)) }

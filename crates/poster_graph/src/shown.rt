@@ -8,6 +8,7 @@ ghost use Rattle.poster_graph.specs.Flags.{flagged, is_on, AreFlags};
 use graph_core::LineGraph;
 use map_base::{LineId, NoMemory, SegId};
 use name_widths::text_width;
+use poster_plan::TextWidth;
 use std::alloc::Global;
 use svg_writer::{Names, name_of};
 
@@ -81,13 +82,14 @@ fn put_flagged(lines: &mut Vec<LineId>, number: u32, flag: bool) -> Result<(), N
 }
 
 /// How wide the widest of the names of these lines is, at a size of 30 units.
-pub fn widest(names: &Names, lines: &[LineId]) -> Result<u32, NoMemory>
+pub fn widest(names: &Names, lines: &[LineId]) -> Result<TextWidth, NoMemory>
     ensures { IfOk result (λ most. most ≡ widest names.now lines.now) }
 {
-    let mut most: u32 = 0;
+    let mut most: u64 = 0;
     for line in lines {
         let width = text_width(name_of(names, *line))?;
         most = most.max(3 * width);
     }
-    Ok(most)
+    let whole = TextWidth::of(most)?;
+    Ok(whole)
 }

@@ -10,6 +10,7 @@ ghost use Rattle.poster_graph.specs.Words.{text_in, AreSeconds, AreTextsOf, IsCo
 use graph_core::{LineGraph, NodeKind};
 use map_base::{LineId, NoMemory, NodeId, SegId};
 use name_widths::{common_word, rest_of, text_width};
+use poster_plan::TextWidth;
 use std::alloc::Global;
 use svg_writer::{Names, name_of, station_name};
 
@@ -185,16 +186,17 @@ fn is_text(text: &str, other: Option<&str>) -> bool
 
 /// How wide a text is with the names of these lines behind it, each four tenths apart. For more than can be reckoned
 /// with there is no room.
-pub(crate) fn width_with(names: &Names, lines: &[LineId], text: &str) -> Result<u32, NoMemory>
+pub(crate) fn width_with(names: &Names, lines: &[LineId], text: &str) -> Result<TextWidth, NoMemory>
     ensures { IfOk result (λ width. width ≡ width_with names.now lines.now text.now) }
 {
     let mut width = text_width(text)?;
     for line in lines {
-        if width > 2_000_000_000 {
+        if width > 1_152_921_504_606_846_976 {
             return Err(NoMemory);
         }
         let more = text_width(name_of(names, *line))?;
         width += 4 + more;
     }
-    Ok(width)
+    let whole = TextWidth::of(width)?;
+    Ok(whole)
 }

@@ -21,13 +21,13 @@ less z by most near few = omega (arith, ints)
 all_four : (P : Corner → Type 0) (a b c d : Corner) → P a → P b → P c → P d → All P (a ∷ b ∷ c ∷ d ∷ [])
 all_four P a b c d h i j k = All-cons P a (b ∷ c ∷ d ∷ []) h (All-cons P b (c ∷ d ∷ []) i (All-cons P c (d ∷ []) j (All-cons P d [] k (All-nil P))))
 
-pub corners_near : (f : Frame) (w h : ℕ) → IsNearFrame f → w ≤ 370000000000 → h ≤ 45000 → All IsLegendPoint (corners_for f w h)
+pub corners_near : (f : Frame) (w h : ℕ) → IsNearFrame f → w ≤ 1500000000000 → h ≤ 45000 → All IsLegendPoint (corners_for f w h)
 corners_near f w h near few low =
     all_four IsLegendPoint (record { x = f.across.greatest -ℤ pos w; y = f.down.least }) (record { x = f.across.least; y = f.down.least })
     (record { x = f.across.greatest -ℤ pos w; y = f.down.greatest -ℤ pos h }) (record { x = f.across.least; y = f.down.greatest -ℤ pos h })
-    (record { across = less f.across.greatest w 370000000000 near.across.greatest few; down = omega (arith, near.down.least) })
+    (record { across = less f.across.greatest w 1500000000000 near.across.greatest few; down = omega (arith, near.down.least) })
     (record { across = omega (arith, near.across.least); down = omega (arith, near.down.least) })
-    (record { across = less f.across.greatest w 370000000000 near.across.greatest few; down = less f.down.greatest h 45000 near.down.greatest low })
+    (record { across = less f.across.greatest w 1500000000000 near.across.greatest few; down = less f.down.greatest h 45000 near.down.greatest low })
     (record { across = omega (arith, near.across.least); down = less f.down.greatest h 45000 near.down.greatest low })
 
 -- a point that is found, or another

@@ -46,12 +46,12 @@ drawn_near f h = record {
   bottom = omega (arith, h.down.greatest);
 }
 
-pub drawn_widened : (f : Frame) (c : Corner) → IsDrawnFrame f → unsigned_abs c.x ≤ 2199023255552 → unsigned_abs c.y ≤ 2199023255552 → IsDrawnFrame (widened f c)
+pub drawn_widened : (f : Frame) (c : Corner) → IsDrawnFrame f → unsigned_abs c.x ≤ 4398046511104 → unsigned_abs c.y ≤ 4398046511104 → IsDrawnFrame (widened f c)
 drawn_widened f c h x y = record {
-  left = min_within 2199023255552 f.across.least c.x h.left x;
-  right = max_within 2199023255552 f.across.greatest c.x h.right x;
-  top = min_within 2199023255552 f.down.least c.y h.top y;
-  bottom = max_within 2199023255552 f.down.greatest c.y h.bottom y;
+  left = min_within 4398046511104 f.across.least c.x h.left x;
+  right = max_within 4398046511104 f.across.greatest c.x h.right x;
+  top = min_within 4398046511104 f.down.least c.y h.top y;
+  bottom = max_within 4398046511104 f.down.greatest c.y h.bottom y;
 }
 
 pub near_short : (s : Shape) → IsNearShape s → IsShortShape s

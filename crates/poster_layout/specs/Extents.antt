@@ -35,14 +35,14 @@ piece_ends u p = drawn_at u p.start ∷ drawn_at u p.end ∷ []
 
 -- a frame of a whole poster, its legend included
 pub record IsDrawnFrame (f : Frame) : Type 0 where
-  pub left : unsigned_abs f.across.least ≤ 2199023255552
-  pub right : unsigned_abs f.across.greatest ≤ 2199023255552
-  pub top : unsigned_abs f.down.least ≤ 2199023255552
-  pub bottom : unsigned_abs f.down.greatest ≤ 2199023255552
+  pub left : unsigned_abs f.across.least ≤ 4398046511104
+  pub right : unsigned_abs f.across.greatest ≤ 4398046511104
+  pub top : unsigned_abs f.down.least ≤ 4398046511104
+  pub bottom : unsigned_abs f.down.greatest ≤ 4398046511104
 
 -- a point at which a legend may stand
 pub record IsLegendPoint (c : Corner) : Type 0 where
-  pub across : unsigned_abs c.x ≤ 919755813888
+  pub across : unsigned_abs c.x ≤ 2049755813888
   pub down : unsigned_abs c.y ≤ 549755858888
 
 -- a frame is no wider than it is high; the points to the right of it and below it
@@ -66,10 +66,10 @@ is_clear_at u plan printed w h c = is_clear_of_all u plan printed (legend_shape 
 -- a legend that can be reckoned with
 pub record IsLegend (l : Legend) : Type 0 where
   pub start : IsLegendPoint l.start
-  pub column : l.column ≤ 4294967445
+  pub column : l.column ≤ 17179869334
   pub rows : 12 ≤ l.rows
 
 -- a point of a poster, its legend included
 pub record IsDrawnPoint (c : Corner) : Type 0 where
-  pub across : unsigned_abs c.x ≤ 8796093022208
-  pub down : unsigned_abs c.y ≤ 8796093022208
+  pub across : unsigned_abs c.x ≤ 35184372088832
+  pub down : unsigned_abs c.y ≤ 35184372088832

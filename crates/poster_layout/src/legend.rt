@@ -14,7 +14,7 @@ use crate::extent::{frame_with, length_of};
 use eight_sides::{Frame, Interval, Shape, meet, upright, widened};
 use line_offsets::Corner;
 use name_places::{down, mark_at, piece_at, printed_shape, up};
-use poster_plan::{Legend, Mark, Piece, Plan, Printed};
+use poster_plan::{Legend, Mark, Piece, Plan, Printed, TextWidth};
 
 /// How many rows a column has where there are so many lines: at least 12, and at least twice the root of their number.
 fn rows_for(lines: u32) -> u32
@@ -48,10 +48,10 @@ fn square(n: u32) -> u32
 }
 
 /// How wide the legend is.
-fn legend_width(lines: u32, widest: u32) -> u64
+fn legend_width(lines: u32, widest: TextWidth) -> u64
     requires { lines ≤ 1000 }
     ensures value { result ≡ legend_width lines widest }
-    ensures small { result ≤ 370000000000 }
+    ensures small { result ≤ 1500000000000 }
 {
     let columns = columns_for(lines, rows_for(lines));
     times(column_for(widest), columns).saturating_sub(60)
@@ -69,10 +69,10 @@ fn columns_for(lines: u32, rows: u32) -> u64
 
 /// How far so many columns reach.
 fn times(column: u64, columns: u64) -> u64
-    requires column { column ≤ 4294967445 }
+    requires column { column ≤ 17179869334 }
     requires columns { columns ≤ 1000 }
     ensures value { result ≡ column * columns }
-    ensures small { result ≤ 4294967445 * columns }
+    ensures small { result ≤ 17179869334 * columns }
 {
     column * columns
 }
@@ -87,11 +87,11 @@ fn legend_height(lines: u32) -> u64
 }
 
 /// How far its columns stand apart.
-fn column_for(widest: u32) -> u64
+fn column_for(widest: TextWidth) -> u64
     ensures value { result ≡ column_for widest }
-    ensures small { result ≤ 4294967445 }
+    ensures small { result ≤ 17179869334 }
 {
-    u64::from(widest) + 150
+    widest.number() + 150
 }
 
 /// The legend of so many lines, whose widest name is so wide, at a pitch with these names; none of no lines.
@@ -100,7 +100,7 @@ pub fn legend_of(
     plan: &Plan,
     printed: &[Printed],
     lines: u32,
-    widest: u32,
+    widest: TextWidth,
 ) -> Option<Legend>
     requires pitch { pitch ≤ 200 }
     requires lines { lines ≤ 1000 }
@@ -123,7 +123,7 @@ pub fn legend_of(
 /// Its upper left point: in the first corner of the map that is clear, else beside the map.
 fn legend_start(pitch: u32, plan: &Plan, printed: &[Printed], width: u64, height: u64) -> Corner
     requires pitch { pitch ≤ 200 }
-    requires width { width ≤ 370000000000 }
+    requires width { width ≤ 1500000000000 }
     requires height { height ≤ 45000 }
     ensures value { result ≡ legend_start pitch plan.now printed.now width height }
     ensures near { IsLegendPoint result }
@@ -143,7 +143,7 @@ fn first_clear(
     corners: &[Corner],
 ) -> Option<Corner>
     requires pitch { pitch ≤ 200 }
-    requires width { width ≤ 370000000000 }
+    requires width { width ≤ 1500000000000 }
     requires height { height ≤ 45000 }
     requires corners { All IsLegendPoint corners.now }
     ensures value { result ≡ find (is_clear_at pitch plan.now printed.now width height) corners.now }
@@ -160,7 +160,7 @@ fn first_clear(
 /// Its upper left point in each corner of a frame.
 fn corners_for(f: Frame, width: u64, height: u64) -> [Corner; 4]
     requires frame { IsNearFrame f }
-    requires width { width ≤ 370000000000 }
+    requires width { width ≤ 1500000000000 }
     requires height { height ≤ 45000 }
     ensures { result ≡ corners_for f width height }
 {
@@ -185,8 +185,8 @@ fn corners_for(f: Frame, width: u64, height: u64) -> [Corner; 4]
 
 /// From a number so far on, and 30 further on each side.
 fn widely(z: i64, long: u64) -> Interval
-    requires z { unsigned_abs z ≤ 1099511627776 }
-    requires long { long ≤ 370000000000 }
+    requires z { unsigned_abs z ≤ 2199023255552 }
+    requires long { long ≤ 1500000000000 }
     ensures value { result ≡ widely z long }
     ensures far { IsFar result }
 {
@@ -199,7 +199,7 @@ fn widely(z: i64, long: u64) -> Interval
 /// What it takes up, widened by 30 on each side.
 fn legend_shape(width: u64, height: u64, start: Corner) -> Shape
     requires start { IsLegendPoint start }
-    requires width { width ≤ 370000000000 }
+    requires width { width ≤ 1500000000000 }
     requires height { height ≤ 45000 }
     ensures { result ≡ legend_shape width height start }
 {
@@ -339,7 +339,7 @@ fn low_of(i: u32, rows: u32) -> u64
 /// So far to the right of where a legend starts, and so far below it.
 fn beyond(start: Corner, across: u64, low: u64) -> Corner
     requires start { IsLegendPoint start }
-    requires across { across ≤ 4294967445000 }
+    requires across { across ≤ 17179869334000 }
     requires low { low ≤ 45015 }
     ensures value { result ≡ beyond start across low }
     ensures x { unsigned_abs result.x ≤ unsigned_abs start.x + across }
@@ -352,7 +352,7 @@ fn beyond(start: Corner, across: u64, low: u64) -> Corner
 }
 
 /// A frame that holds the legend of so many lines too.
-pub fn frame_beside(f: Frame, lines: u32, widest: u32, legend: Option<Legend>) -> Frame
+pub fn frame_beside(f: Frame, lines: u32, widest: TextWidth, legend: Option<Legend>) -> Frame
     requires frame { IsNearFrame f }
     requires lines { lines ≤ 1000 }
     requires legend { IfSome legend IsLegend }
@@ -366,7 +366,7 @@ pub fn frame_beside(f: Frame, lines: u32, widest: u32, legend: Option<Legend>) -
 }
 
 /// A frame that holds this legend of so many lines too.
-fn frame_around(f: Frame, lines: u32, widest: u32, legend: Legend) -> Frame
+fn frame_around(f: Frame, lines: u32, widest: TextWidth, legend: Legend) -> Frame
     requires frame { IsNearFrame f }
     requires lines { lines ≤ 1000 }
     requires legend { IsLegend legend }

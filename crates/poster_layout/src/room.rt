@@ -53,11 +53,11 @@ impl<'a> Room<'a> {
     }
 
     /// Whether a place of the name of a mark is free in a step.
-    fn is_free(&self, mark: Mark, step: Step, place: Place) -> bool
+    fn is_free(&self, mark: &Mark, step: Step, place: Place) -> bool
         requires { IsRoom self.now }
-        ensures { result ≡ is_free_at self.now.pitch self.now.plan.now self.now.printed.items step mark place }
+        ensures { result ≡ is_free_at self.now.pitch self.now.plan.now self.now.printed.items step mark.now place }
     {
-        let shape = place_shape(sign_of(self.pitch, mark), step, place);
+        let shape = place_shape(sign_of(self.pitch, *mark), step, place);
         self.is_clear(mark.node.0, shape, step)
     }
 
@@ -97,13 +97,13 @@ impl<'a> Room<'a> {
         ensures { result ≡ freedom self.now.pitch self.now.plan.now i }
     {
         let mark = mark_numbered(self.plan, i);
-        self.count_free(mark, &beside_lines(mark.level))
+        self.count_free(&mark, &beside_lines(mark.level))
     }
 
     /// How many of these places of the name of a mark are free in full size.
-    fn count_free(&self, mark: Mark, places: &[Place]) -> usize
+    fn count_free(&self, mark: &Mark, places: &[Place]) -> usize
         requires { IsRoom self.now }
-        ensures { result ≡ length (filter (is_free_at self.now.pitch self.now.plan.now self.now.printed.items Full mark) places.now) }
+        ensures { result ≡ length (filter (is_free_at self.now.pitch self.now.plan.now self.now.printed.items Full mark.now) places.now) }
     {
         let mut count = 0;
         for place in places {
@@ -117,13 +117,14 @@ impl<'a> Room<'a> {
         requires { IsRoom self.now }
         ensures { result ≡ find (is_free self.now.pitch self.now.plan.now self.now.printed.items step i) (places_in step (mark_numbered self.now.plan.now.marks i).level) }
     {
-        self.first_of_mark(mark_numbered(self.plan, i), step)
+        let mark = mark_numbered(self.plan, i);
+        self.first_of_mark(&mark, step)
     }
 
     /// The first place of the name of a mark that is free in a step.
-    fn first_of_mark(&self, mark: Mark, step: Step) -> Option<Place>
+    fn first_of_mark(&self, mark: &Mark, step: Step) -> Option<Place>
         requires { IsRoom self.now }
-        ensures { result ≡ find (is_free_at self.now.pitch self.now.plan.now self.now.printed.items step mark) (places_in step mark.level) }
+        ensures { result ≡ find (is_free_at self.now.pitch self.now.plan.now self.now.printed.items step mark.now) (places_in step mark.now.level) }
     {
         match step {
             Step::Full => self.first_of(mark, step, &beside_lines(mark.level)),
@@ -133,9 +134,9 @@ impl<'a> Room<'a> {
     }
 
     /// The first of these places of the name of a mark that is free in a step.
-    fn first_of(&self, mark: Mark, step: Step, places: &[Place]) -> Option<Place>
+    fn first_of(&self, mark: &Mark, step: Step, places: &[Place]) -> Option<Place>
         requires { IsRoom self.now }
-        ensures { result ≡ find (is_free_at self.now.pitch self.now.plan.now self.now.printed.items step mark) places.now }
+        ensures { result ≡ find (is_free_at self.now.pitch self.now.plan.now self.now.printed.items step mark.now) places.now }
     {
         for place in places {
             if self.is_free(mark, step, *place) {
@@ -222,8 +223,8 @@ fn ground_thing(pitch: u32, mark: Mark) -> Thing
     ensures short { IsShortThing result }
 {
     Thing {
-        shape: ground_at(pitch, mark),
         kin: Kin::Node(mark.node.0),
+        shape: ground_at(pitch, mark),
     }
 }
 

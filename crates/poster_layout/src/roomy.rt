@@ -42,8 +42,8 @@ fn mark_thing(pitch: u32, mark: Mark) -> Thing
     ensures short { IsShortThing result }
 {
     Thing {
-        shape: mark_at(pitch, mark),
         kin: Kin::Node(mark.node.0),
+        shape: mark_at(pitch, mark),
     }
 }
 

@@ -39,8 +39,8 @@ fn view_size(f: Frame) -> Corner
 
 /// How far it is from one coordinate to another, with 60 more on each side.
 fn wide_length(least: i64, greatest: i64) -> i64
-    requires least { unsigned_abs least ≤ 2199023255552 }
-    requires greatest { unsigned_abs greatest ≤ 2199023255552 }
+    requires least { unsigned_abs least ≤ 4398046511104 }
+    requires greatest { unsigned_abs greatest ≤ 4398046511104 }
     ensures { result ≡ (greatest -ℤ least) +ℤ pos 120 }
 {
     greatest - least + 120

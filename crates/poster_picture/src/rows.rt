@@ -85,7 +85,7 @@ fn apart_from(c: Corner, x: u32, y: u32) -> Corner
 
 /// A coordinate that is so much greater.
 fn further(z: i64, by: u32) -> i64
-    requires { unsigned_abs z ≤ 8796093022208 }
+    requires { unsigned_abs z ≤ 35184372088832 }
     ensures { result ≡ z +ℤ pos by }
 {
     z + i64::from(by)

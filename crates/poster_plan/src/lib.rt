@@ -9,6 +9,7 @@ mod layout;
 mod place;
 mod plan;
 mod sign;
+mod text_width;
 mod things;
 
 pub use laws::{names_keep_apart, names_keep_to_their_stations, names_lie_over_lines_last};
@@ -16,4 +17,5 @@ pub use layout::{Legend, Printed, Step};
 pub use place::{Anchor, Place, Spot, Turn};
 pub use plan::{Mark, Piece, Plan};
 pub use sign::Sign;
+pub use text_width::TextWidth;
 pub use things::{Kin, Thing};

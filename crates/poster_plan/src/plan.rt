@@ -1,5 +1,6 @@
 //! What is drawn, in grid steps.
 
+use crate::text_width::TextWidth;
 use map_base::{NodeId, Sequence};
 use octi_grid::GridPoint;
 
@@ -13,7 +14,7 @@ pub struct Mark {
     /// How far what is drawn of it reaches from its centre.
     pub radius: u32,
     /// How wide its name is, in tenths of the size of type, where it has a name to print.
-    pub name: Option<u32>,
+    pub name: Option<TextWidth>,
     /// Whether all its segments leave it to the east or to the west.
     pub level: bool,
 }

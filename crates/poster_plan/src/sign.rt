@@ -7,5 +7,5 @@ use line_offsets::Corner;
 pub struct Sign {
     pub centre: Corner,
     pub radius: u32,
-    pub tenths: u32,
+    pub tenths: u64,
 }

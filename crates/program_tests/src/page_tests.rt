@@ -46,6 +46,8 @@ fn a_map_is_made_with_the_page_of_its_poster(rt: HostRuntime) -> Result<(), Fail
     let due = page_of(alloc, SMALLEST_POSTER.as_bytes())?;
     let page = sinks.written(&page(alloc)?).unwrap_or(b"");
     assert_eq!(rt; page, due.as_slice());
+    let end = format!(in alloc; "{SMALLEST_POSTER}\n<!-- the picture ends here -->\n")?;
+    assert!(rt; page.ends_with(end.as_str().as_bytes()));
     Ok(())
 }
 

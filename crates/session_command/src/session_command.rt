@@ -26,6 +26,7 @@ use std::sync::ledger::Ledger;
 /// of the first line that is neither a draw nor an edit that may come there, if there is one. The whole script is read
 /// before `out` is begun, and that before its first line is followed. Where the script is not there, that is as a bad line 0,
 /// and nothing is begun. `steps` counts the branch nodes of searches for line orders.
+#[inline(never)]
 pub fn play_script<F: Files, S: Sinks, L: Ledger>(
     alloc: Global,
     inputs: &Inputs<'_>,

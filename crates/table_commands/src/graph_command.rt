@@ -15,6 +15,7 @@ use run_status::{Refusal, say};
 use std::alloc::Global;
 
 /// Prints the line graph of a command's feed.
+#[inline(never)]
 pub fn print_line_graph<F: Files>(
     alloc: Global,
     inputs: &Inputs<'_>,

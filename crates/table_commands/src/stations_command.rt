@@ -16,6 +16,7 @@ use run_status::{Refusal, say};
 use std::alloc::Global;
 
 /// Prints the stations of a command's feed.
+#[inline(never)]
 pub fn print_stations<F: Files>(
     alloc: Global,
     inputs: &Inputs<'_>,

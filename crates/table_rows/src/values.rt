@@ -18,9 +18,9 @@ pub fn rows_of(alloc: Global, bytes: &[u8]) -> Result<Rows, NoMemory>
 
 /// A reader of the rows of a file, one at a time.
 #[tactic(auto, unfolding(crate::specs::Values::rows_of))]
-pub fn row_reader_of<'a>(alloc: Global, bytes: &'a [u8]) -> RowReader<'a>
-    ensures reading { IsReading result }
-    ensures all { rows_to_come result ≡ rows_of bytes.now }
+pub fn row_reader_of<'a>(alloc: Global, bytes: &'a [u8]) -> Result<RowReader<'a>, NoMemory>
+    ensures reading { IfOk result IsReading }
+    ensures all { IfOk result (λ reader. rows_to_come reader ≡ rows_of bytes.now) }
 {
     RowReader::new(alloc, bytes)
 }

@@ -64,7 +64,7 @@ pub(crate) fn read_stop_times(
     ensures read { IfOk result (AreReads trips.now stops.now (rows_of bytes.items)) }
     ensures refused { IfErr result (λ fault. Refuses never fault (stop_times_of trips.now stops.now (rows_of bytes.items))) }
 {
-    let mut reader = row_reader_of(alloc, &bytes);
+    let mut reader = row_reader_of(alloc, &bytes)?;
     if !reader.next()? {
         return Err(bad_row(Table::StopTimes, 0, Why::MissingColumn));
     }

@@ -50,7 +50,7 @@ impl FoundRow {
 
 /// The row of this number of a table, with its header: row 1 is the header itself. None where there is no such row.
 pub(crate) fn row_at(alloc: Global, bytes: &[u8], row: u64) -> Result<Option<FoundRow>, NoMemory> {
-    let mut reader = row_reader_of(alloc, bytes);
+    let mut reader = row_reader_of(alloc, bytes)?;
     if row == 0 || !advance(&mut reader, 1)? {
         return Ok(None);
     }
@@ -100,7 +100,7 @@ pub(crate) fn earlier_row(
     sought: &Sought<'_>,
     before: u64,
 ) -> Result<Option<u64>, NoMemory> {
-    let mut reader = row_reader_of(alloc, bytes);
+    let mut reader = row_reader_of(alloc, bytes)?;
     for number in 1..before {
         if !reader.next()? {
             return Ok(None);

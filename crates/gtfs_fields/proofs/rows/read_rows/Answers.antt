@@ -9,14 +9,14 @@ use Rattle.gtfs_fields.proofs.rows.read_rows.Goals as goal
 pub loop-ends-init : goal.loop-ends-init
 loop-ends-init c =
     rw (c.new-ends.ensures.items, c.in_ok-fields.ensures) (record {
-      plain = c.reader_of-reader.ensures.plain;
+      plain = c.in_ok-reader.ensures.plain;
       covers = refl;
-      all = sym c.reader_of-reader.ensures.left;
+      all = sym c.in_ok-reader.ensures.left;
     })
 
 pub loop-ends-smaller : goal.loop-ends-smaller
 loop-ends-smaller c =
-    let takes = rw c.if-branch.true at c.in_ok-read_next.ensures.takes in
+    let takes = ap rows_left (sym c.deref_mut.ensures.value) ∙ (rw c.if-branch.true at c.in_ok-read_next.ensures.takes) in
     omega (arith, ap length takes)
 
 pub loop-ends-preserved : goal.loop-ends-preserved
@@ -24,7 +24,7 @@ loop-ends-preserved c =
     let row = fields_of c.read_next.new.row in
     let rows = cut 0 c.loop-ends.ends.items c.loop-ends.fields in
     let left = rows_left c.read_next.new.reader in
-    let takes = rw c.if-branch.true at c.in_ok-read_next.ensures.takes in
+    let takes = ap rows_left (sym c.deref_mut.ensures.value) ∙ (rw c.if-branch.true at c.in_ok-read_next.ensures.takes) in
     let fields = c.in_ok-push_fields.ensures in
     let ends = c.in_ok-push.ensures.items in
     let size : c.in_ok-place_of.field-0 ≡ length c.loop-ends.fields + length row = c.in_ok-place_of.ensures ∙ c.len.ensures ∙ ap length fields ∙ length-append c.loop-ends.fields row in
@@ -38,5 +38,5 @@ loop-ends-preserved c =
 pub returns : goal.returns
 returns c =
     let rows = cut 0 c.loop-ends.ends.items c.loop-ends.fields in
-    let takes = rw c.if-branch.false at c.in_ok-read_next.ensures.takes in
+    let takes = ap rows_left (sym c.deref_mut.ensures.value) ∙ (rw c.if-branch.false at c.in_ok-read_next.ensures.takes) in
     sym (c.loop-ends.invariant.all ∙ ap (λ (later : List (List (List ℕ))). rows ++ later) takes ∙ append-nil rows)

@@ -19,4 +19,4 @@ returns-clause-near c =
     c.shape_of.ensures
     ∙ ap (λ (t : Turn). shape_of t c.sides.result.0 c.sides.result.1) c.turn_at.ensures
     ∙ ap (λ (q : Interval × Interval). shape_of (turn_at c.args.place) q.0 q.1) c.sides.ensures.value in
-    subst IsNearShape (sym value) (place_near c.args.sign c.args.step c.args.place c.requires (omega arith) (omega arith))
+    subst IsNearShape (sym value) (place_near c.args.sign c.args.step c.args.place c.requires.near (omega arith) c.requires.few)

@@ -7,5 +7,5 @@ use Rattle.name_widths.proofs.widths.text_width.Given as goal
 abbrev pub invariant-loop-c : goal.invariant-loop-c
 invariant-loop-c l = record {
   value : l.width ≡ sum_by char_width (take (length l.yielded) (chars l.text));
-  small : l.width ≤ 1000000010;
+  small : l.width ≤ 1152921504606846986;
 }

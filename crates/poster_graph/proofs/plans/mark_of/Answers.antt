@@ -14,5 +14,5 @@ returns c = λ s.
     let callers = c.args.served.callers.now in
     let n = c.args.n.0 in
     ap (λ (m : Mark). m ∷ [])
-    (same_mark c.args.n c.point_of-at.result (point_of g walks n) c.in_ok-radius.radius (radius_at g callers n) c.in_ok-name.name (name_width names g callers n (printed_at g (all_rests names g) n)) c.leaves_level-level.result (leaves_level g walks n)
-    c.point_of-at.ensures c.in_ok-radius.ensures c.in_ok-name.ensures c.leaves_level-level.ensures)
+    (same_mark c.args.n c.point_of-at.result (point_of g walks n) c.in_ok-radius.radius (radius_at g callers n) c.args.name (name_width names g callers n (printed_at g (all_rests names g) n)) c.leaves_level-level.result (leaves_level g walks n)
+    c.point_of-at.ensures c.in_ok-radius.ensures c.requires.name c.leaves_level-level.ensures)

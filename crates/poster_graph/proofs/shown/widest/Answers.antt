@@ -1,8 +1,10 @@
 use Rattle.std.proofs.Common.{◌≡◌, ℕ, ◌*◌, max, get_or, ap, sym, ◌∙◌, arith}
+use Rattle.std.proofs.lemmas.List.{take_all}
 use Rattle.std.proofs.lemmas.List.Sums.{fold_more}
 use Rattle.map_base.specs.declared.ids.LineId.{LineId}
 use Rattle.svg_writer.specs.Picture.{name_of}
 use Rattle.name_widths.specs.Widths.{text_width}
+use Rattle.poster_rules.specs.Plans.{widest}
 use Rattle.poster_graph.proofs.shown.widest.Goals as goal
 
 abbrev none : LineId
@@ -18,3 +20,6 @@ loop-line-preserved c =
     most ∙ ap (λ (w : ℕ). max c.loop-line.most (3 * w)) width
     ∙ ap (λ (most : ℕ). wider most (get_or lines i none)) c.loop-line.invariant
     ∙ sym (fold_more wider 0 lines i none c.loop-line-test.true)
+
+pub returns : goal.returns
+returns c = c.in_ok-whole.ensures.value ∙ c.loop-line.invariant ∙ ap (widest c.args.names.now) (take_all c.loop-line.line-index c.args.lines.now (omega arith))

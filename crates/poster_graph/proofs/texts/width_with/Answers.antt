@@ -23,4 +23,4 @@ loop-line-preserved c =
 pub returns : goal.returns
 returns c =
     let width : LineId → ℕ = λ l. 4 + text_width (name_of c.args.names.now l) in
-    c.loop-line.invariant.value ∙ ap (λ (ls : List LineId). text_width c.args.text.now + sum_by width ls) (take_all c.loop-line.line-index c.args.lines.now (omega arith))
+    c.in_ok-whole.ensures.value ∙ c.loop-line.invariant.value ∙ ap (λ (ls : List LineId). text_width c.args.text.now + sum_by width ls) (take_all c.loop-line.line-index c.args.lines.now (omega arith))

@@ -8,5 +8,5 @@ use Rattle.poster_graph.proofs.texts.width_with.Given as goal
 abbrev pub invariant-loop-line : goal.invariant-loop-line
 invariant-loop-line l = record {
   value : l.width ≡ text_width l.text + sum_by (λ (a : LineId). 4 + text_width (name_of l.names a)) (take l.line-index l.lines);
-  small : l.width ≤ 3000000014;
+  small : l.width ≤ 2305843009213693966;
 }

@@ -22,14 +22,14 @@ loop-mark-preserved c =
     let after = c.in_ok-apart.ensures.table c.if-not-apart.false in
     record {
       table = after.0;
-      left = mark_apart c.args.pitch c.as_slice-marks.result.now c.as_slice-pieces.result.now c.loop-mark.mark-index _ c.loop-mark.table.things.items c.put_apart.new.table.things.items c.mark_thing.result (is_roomy c.args.pitch c.args.plan.now) c.loop-mark-test.true
-          c.mark_thing.ensures.value (sym c.in_ok-apart.ensures.apart ∙ c.if-not-apart.false) after.1 c.loop-mark.invariant.left;
+      left = mark_apart c.args.pitch c.as_slice-marks.result.now c.as_slice-pieces.result.now c.loop-mark.mark-index c.mark-item.result c.loop-mark.table.things.items c.put_apart.new.table.things.items c.mark_thing.result (is_roomy c.args.pitch c.args.plan.now) c.loop-mark-test.true
+          (c.mark_thing.ensures.value ∙ ap (mark_thing c.args.pitch) c.mark-item.is) (sym c.in_ok-apart.ensures.apart ∙ c.if-not-apart.false) after.1 c.loop-mark.invariant.left;
     }
 
 pub returns-then-not-apart : goal.returns-then-not-apart
 returns-then-not-apart c =
-    mark_met c.args.pitch c.as_slice-marks.result.now c.as_slice-pieces.result.now c.loop-mark.mark-index _ c.loop-mark.table.things.items c.mark_thing.result (is_roomy c.args.pitch c.args.plan.now) c.loop-mark-test.true
-    c.mark_thing.ensures.value (sym c.in_ok-apart.ensures.apart ∙ c.if-not-apart.true) c.loop-mark.invariant.left
+    mark_met c.args.pitch c.as_slice-marks.result.now c.as_slice-pieces.result.now c.loop-mark.mark-index c.mark-item.result c.loop-mark.table.things.items c.mark_thing.result (is_roomy c.args.pitch c.args.plan.now) c.loop-mark-test.true
+    (c.mark_thing.ensures.value ∙ ap (mark_thing c.args.pitch) c.mark-item.is) (sym c.in_ok-apart.ensures.apart ∙ c.if-not-apart.true) c.loop-mark.invariant.left
 
 pub loop-piece-init : goal.loop-piece-init
 loop-piece-init c = record {

@@ -18,7 +18,7 @@ returns-in-Some-clause-refused c =
     let takes = rw c.if-not-branch.false at c.in_ok-next.ensures.reads in
     let header = row_read c.next.new.self in
     let rows : List Row = header ∷ rows_to_come c.next.new.self in
-    let all : rows_of c.args.bytes.items ≡ rows = ap rows_of (sym c.deref.ensures.value) ∙ sym c.row_reader_of-reader.ensures.all ∙ takes in
+    let all : rows_of c.args.bytes.items ≡ rows = ap rows_of (sym c.deref.ensures.value) ∙ sym c.in_ok-reader.ensures.all ∙ takes in
     subst (λ (rs : List Row). Refuses never c.bad_row-in-Some.result (stop_times_of trips stops rs)) (sym all)
     (Refuses-bad StopTimes (stop_times_reason trips stops rows) rows (trip_stations trips stops rows) 0 c.in-Some.why c.bad_row-in-Some.result
     (omega arith)
@@ -32,5 +32,5 @@ pub returns-clause-read : goal.returns-clause-read
 returns-clause-read c =
     let takes = rw c.if-not-branch.false at c.in_ok-next.ensures.reads in
     let whole : rows_from c.next.new.self ≡ rows_of c.args.bytes.items =
-    sym takes ∙ c.row_reader_of-reader.ensures.all ∙ ap rows_of c.deref.ensures.value in
+    sym takes ∙ c.in_ok-reader.ensures.all ∙ ap rows_of c.deref.ensures.value in
     subst (λ (rs : List Row). AreReads c.args.trips.now c.args.stops.now rs c.in_ok-read_rows.field-0) whole c.in_ok-read_rows.ensures

@@ -8,7 +8,7 @@ pub loop-place-preserved : goal.loop-place-preserved
 loop-place-preserved c =
     let room = c.args.self.now in
     record {
-      value = free_more (is_free_at room.pitch room.plan.now room.printed.items Full c.args.mark) c.args.places.now c.loop-place.place-index _ c.loop-place.count c.counted-count.result c.loop-place-test.true c.loop-place.invariant.value
+      value = free_more (is_free_at room.pitch room.plan.now room.printed.items Full c.args.mark.now) c.args.places.now c.loop-place.place-index _ c.loop-place.count c.counted-count.result c.loop-place-test.true c.loop-place.invariant.value
           (c.counted-count.ensures.value ∙ ap (λ (b : Bool). c.loop-place.count + cond b 1 0) c.is_free.ensures);
       small = omega arith;
     }

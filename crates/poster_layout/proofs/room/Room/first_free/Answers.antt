@@ -9,4 +9,4 @@ pub returns : goal.returns
 returns c =
     let room = c.args.self.now in
     c.first_of_mark.ensures
-    ∙ ap (λ (m : Mark). find (is_free_at room.pitch room.plan.now room.printed.items c.args.step m) (places_in c.args.step m.level)) c.mark_numbered.ensures
+    ∙ ap (λ (m : Mark). find (is_free_at room.pitch room.plan.now room.printed.items c.args.step m) (places_in c.args.step m.level)) c.mark_numbered-mark.ensures
