@@ -42,11 +42,6 @@ returns-then-not-is_within-clause-found c =
     subst (λ (x : Question). IsRouteUpTo c.args.limit x.from x.to (route x.board x.from x.to) None) c.in_ok-asked.ensures
     (route_beyond q c.before-2.ensures.asked c.args.limit (c.in_ok-note_costs.ensures.searched.beyond never))
 
-pub walk-requires : goal.walk-requires
-walk-requires c =
-    let known = c.of.ensures ∙ ap (known_at c.note_costs.new.known) c.before-2.ensures.value in
-    c.in_ok-note_costs.ensures.searched.within (subst (λ (o : Option ℕ). IsKnownWithin o c.args.limit) known (c.is_within.ensures.0 c.if-not-is_within.false))
-
 pub returns-clause-found : goal.returns-clause-found
 returns-clause-found c =
     IfOk-weaker c.walk.result (IsAnswer (question c.in_ok-asked.asked)) (λ (o : Option PlainWalk). IsRouteUpTo c.args.limit c.args.from c.args.to (route (parts_of c.args.board.now) c.args.from c.args.to) o)
