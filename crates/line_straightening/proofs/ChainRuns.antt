@@ -334,15 +334,18 @@ module _ (graph : GraphParts) (fit : IsConsistent graph) (cell : ℕ) where
       z : NodeId
       z = far_end graph s x
 
+      step : ChainStep
+      step = record { seg = s; to = z }
+
       rest : List Bool → List ChainStep
       rest corners = steps_from graph corners k z (other_of (round_of graph z) s)
 
-      by_corner : (b : Bool) → is_corner more z ≡ b → is_corner few (end_after x (record { seg = s; to = z } ∷ unless_ended b (rest more))) ≡ true → (is_corner few (end_after z (rest more)) ≡ true → rest few ≡ rest more)
-          → record { seg = s; to = z } ∷ unless_ended (is_corner few z) (rest few) ≡ record { seg = s; to = z } ∷ unless_ended b (rest more)
-      by_corner true f g later = ap (λ b. (let t : ChainStep = record { seg = s; to = z } in t) ∷ unless_ended b (rest few)) g
+      by_corner : (b : Bool) → is_corner more z ≡ b → is_corner few (end_after x (step ∷ unless_ended b (rest more))) ≡ true → (is_corner few (end_after z (rest more)) ≡ true → rest few ≡ rest more)
+          → step ∷ unless_ended (is_corner few z) (rest few) ≡ step ∷ unless_ended b (rest more)
+      by_corner true f g later = ap (λ b. step ∷ unless_ended b (rest few)) g
       by_corner false f g later =
-          ap (λ b. (let t : ChainStep = record { seg = s; to = z } in t) ∷ unless_ended b (rest few)) (not_few z f)
-          ∙ ap (λ (ts : List ChainStep). (let t : ChainStep = record { seg = s; to = z } in t) ∷ ts) (later g)
+          ap (λ b. step ∷ unless_ended b (rest few)) (not_few z f)
+          ∙ ap (λ (ts : List ChainStep). step ∷ ts) (later g)
 
   pub chain_apart : (c : Chain) → IsChain graph (corners_of graph cell) c → c.from.0 ≡ (end_of c).0 → ⊥
   chain_apart c h ring = by_flag (is_corner few c.from) refl
