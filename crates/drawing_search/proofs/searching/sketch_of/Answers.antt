@@ -88,6 +88,11 @@ put_walk-requires-clause-inside c =
     ∙ ap (λ (x : PlainWalk). list_all (contains c.args.bounds) (points_of x)) t.1
     ∙ all_place (λ (x : PlainWalk). list_all (contains c.args.bounds) (points_of x)) ws (length c.loop-walk.yielded) w c.requires.within t.0
 
+pub overflow_add-s : goal.overflow_add-s
+overflow_add-s c =
+    let t = YieldsList-turn (YieldsList-from_vec c.args.walks.items (cc) (cc)) c.loop-walk.yielded _ c.loop-walk.yielded_by _ _ c.in-Some.walk c.in-Some.is c.next.ensures.steps in
+    omega (arith, t.0, c.loop-walk.invariant.count, c.requires.walks, c.requires.graph.few_segments)
+
 pub loop-walk-preserved : goal.loop-walk-preserved
 loop-walk-preserved c =
     let ws = c.args.walks.items in
