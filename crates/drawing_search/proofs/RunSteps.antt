@@ -134,7 +134,7 @@ pub record IsUnderWay (graph : GraphParts) (k : Sketch) (c : Chain) (most : ℕ)
   pub left : i < length c.steps → IsLayingFrom graph at c.steps (pieces_of walk (length c.steps)) i mid (last_seg_of c) (end_of c).0
 
 -- what a step wants that is laid on a drawing, between two places of the walk
-pub record IsReady (graph : GraphParts) (k : Sketch) (inner : Bool) (t : ChainStep) (ps : List GridPoint) (ds : List Dir) (a b : ℕ) : Type 0 where
+pub record IsStepReady (graph : GraphParts) (k : Sketch) (inner : Bool) (t : ChainStep) (ps : List GridPoint) (ds : List Dir) (a b : ℕ) : Type 0 where
   pub segment : t.seg.0 < length graph.ends
   pub node : t.to.0 < length graph.kinds
   pub legal : IsLegalSketch graph k
@@ -163,9 +163,9 @@ module _ (graph : GraphParts) (fit : IsConsistent graph) (k : Sketch) (h : IsLeg
       abbrev no_walk : PlainWalk
       no_walk = record { start = nowhere; steps = [] }
 
-      pub step_ready : (inner : Bool) → inner ≡ nat_lt (i + 1) (length ts) → IsReady graph mid inner (get_or ts i d) ps ds a b
+      pub step_ready : (inner : Bool) → inner ≡ nat_lt (i + 1) (length ts) → IsStepReady graph mid inner (get_or ts i d) ps ds a b
       step_ready inner is =
-          subst (λ (t : ChainStep). IsReady graph mid inner t ps ds a b) (sym same_step)
+          subst (λ (t : ChainStep). IsStepReady graph mid inner t ps ds a b) (sym same_step)
           (record {
             segment = fits.segment;
             node = fits.node;
