@@ -1,14 +1,9 @@
-use Rattle.std.proofs.Common.{◌≡◌, refl, sym, ◌∙◌, ap, subst, ◌+◌, ◌<◌, ◌≤◌, true, false, nat_le, nat_lt, List, [], length, arith}
-use Rattle.std.specs.List.{list_all}
+use Rattle.std.proofs.Common.{◌≡◌, refl, sym, ◌∙◌, ap, subst, ◌+◌, ◌<◌, ◌≤◌, true, false, nat_le, nat_lt, List, length, arith}
+use Rattle.std.proofs.lemmas.Result.{err_from_is_err_and}
 use Rattle.std.specs.Prelude.{option_map, vec_items}
 use Rattle.line_chains.specs.declared.chain.ChainStep.{ChainStep}
 use Rattle.octi_grid.specs.declared.point.GridPoint.{GridPoint}
 use Rattle.octi_grid.specs.Legal.{is_even}
-use Rattle.octi_grid.specs.Walks.{PlainWalk}
-use Rattle.grid_board.specs.Boards.{contains}
-use Rattle.grid_board.specs.declared.bounds.Bounds.{Bounds}
-use Rattle.segment_router.proofs.SettledLemmas.{nowhere}
-use Rattle.run_laying.specs.Laying.{Sketch}
 use Rattle.run_laying.specs.Pieces.{even_steps, point_at}
 use Rattle.drawing_search.proofs.FewSteps.{run_few}
 use Rattle.drawing_search.proofs.Laid.{cuts_none, none_laid, uncut_laid}
@@ -19,6 +14,9 @@ use Rattle.drawing_search.proofs.sketch.Sketch.lay.Goals as goal
 
 pub returns-in_default : goal.returns-in_default
 returns-in_default c = (none_laid c.args.graph.now c.args.most c.args.run.now c.args.self.now (sym c.in_default.is ∙ c.in_ok-walk.ensures), refl)
+
+pub returns-in_err-track : goal.returns-in_err-track
+returns-in_err-track c = let p = err_from_is_err_and c.from_residual-in_err-track.result c.from_residual-in_err-track.ensures.1 in rw p.1 tt
 
 pub cuts-requires-clause-pieces : goal.cuts-requires-clause-pieces
 cuts-requires-clause-pieces c = omega (arith, c.requires.run.some, ap length c.as_slice-steps.ensures)
@@ -43,6 +41,9 @@ cuts-requires-clause-even c =
     let found = sym c.in-Some.is ∙ c.in_ok-walk.ensures in
     subst (λ (ps : List GridPoint). is_even (point_at ps 0) ≡ true) (sym c.in_ok-track.ensures.points)
     (first_even c.args.graph.now c.requires.graph c.args.self.now c.requires.legal c.args.run.now c.requires.run c.requires.free c.args.most c.in-Some.walk found)
+
+pub returns-in_err-cuts : goal.returns-in_err-cuts
+returns-in_err-cuts c = let p = err_from_is_err_and c.from_residual-in_err-cuts.result c.from_residual-in_err-cuts.ensures.1 in rw p.1 tt
 
 pub returns-in_default-2 : goal.returns-in_default-2
 returns-in_default-2 c =

@@ -29,7 +29,7 @@ pub returns : goal.returns
 returns c =
     let g = c.args.graph.now in
     let piece = piece_along c.args.track.now.points.items c.args.track.now.steps.items c.args.start c.args.end in
-    let e : ends_of g c.args.seg ≡ c.ends-low.result = read_at g.ends c.args.seg.0 c.ends-low.result (record { 0 = 0 }, record { 0 = 0 }) c.ends-low.ensures in
+    let e : ends_of g c.args.seg ≡ c.ends.result = read_at g.ends c.args.seg.0 c.ends.result (record { 0 = 0 }, record { 0 = 0 }) c.ends.ensures in
     c.put_walk.ensures
     ∙ ap (λ (w : PlainWalk). with_walk_of c.args.self.now c.args.seg (Some w))
     (c.in_ok-piece.ensures ∙ ap (λ (v : NodeId × NodeId). cond (eqb v.0.0 c.args.from.0) piece (reversed_walk piece)) (sym e))
