@@ -23,7 +23,7 @@ put_walk-requires c =
 pub loop-s-preserved : goal.loop-s-preserved
 loop-s-preserved c =
     let ms = c.args.walks.items in
-    let m = (c.in-Some.s, c.in-Some.walk) in
+    let m : SegId × PlainWalk = (c.in-Some.s, c.in-Some.walk) in
     let done = c.loop-s.yielded in
     let k = c.loop-s.sketch in
     let t = YieldsList-turn (YieldsList-from_vec {s = c.into_iter-s-iterator.result} ms (search rules) (search rules)) done c.loop-s.s-iterator c.loop-s.yielded_by c.next.result c.next.new.self m c.in-Some.is c.next.ensures.steps in
