@@ -24,22 +24,28 @@ of_nothing = refl
 
 -- a key leaves the other defaults as they are
 least_near : with_table (default_choices Make) (parse_document (codes "near = 20\n"))
-    ≡ Ok (near_and_method (record { search = Live; claim = Best; spread = Percent 0; finest = 4; moves = 0 }))
+    ≡ Ok (near_and_method (record { search = Live; claim = Best; spread = Percent 0; finest = 4; straight = 0; moves = 0 }))
 unfolding toml_on_literals
 least_near = refl
 
 of_map : with_table (default_choices Map) (parse_document (codes "budget = 20000\nnear = 20\nfinest = 8\n"))
-    ≡ Ok (near_and_method (record { search = Dual; claim = Best; spread = Auto; finest = 8; moves = 1000 }))
+    ≡ Ok (near_and_method (record { search = Dual; claim = Best; spread = Auto; finest = 8; straight = 1000; moves = 0 }))
 unfolding toml_on_literals
 of_map = refl
 
-no_moves : with_table (default_choices Map) (parse_document (codes "budget = 20000\nnear = 20\nfinest = 8\nmoves = 0\n"))
-    ≡ Ok (near_and_method (record { search = Dual; claim = Best; spread = Auto; finest = 8; moves = 0 }))
+-- moves leave the straightening of a map as it is, and a map that isn't straightened is not moved
+map_with_moves : with_table (default_choices Map) (parse_document (codes "budget = 20000\nnear = 20\nfinest = 8\nmoves = 7\n"))
+    ≡ Ok (near_and_method (record { search = Dual; claim = Best; spread = Auto; finest = 8; straight = 1000; moves = 7 }))
 unfolding toml_on_literals
-no_moves = refl
+map_with_moves = refl
+
+not_straightened : with_table (default_choices Map) (parse_document (codes "budget = 20000\nnear = 20\nfinest = 8\nstraight = 0\n"))
+    ≡ Ok (near_and_method (record { search = Dual; claim = Best; spread = Auto; finest = 8; straight = 0; moves = 0 }))
+unfolding toml_on_literals
+not_straightened = refl
 
 of_method : with_table (default_choices Make) (parse_document (codes "search = \"dual\"\nspread = \"auto\"\nnear = 20\nfinest = 8\n"))
-    ≡ Ok (near_and_method (record { search = Dual; claim = Best; spread = Auto; finest = 8; moves = 0 }))
+    ≡ Ok (near_and_method (record { search = Dual; claim = Best; spread = Auto; finest = 8; straight = 0; moves = 0 }))
 unfolding toml_on_literals
 of_method = refl
 
@@ -61,7 +67,7 @@ unfolding toml_on_literals
 spread_too_far = refl
 
 live_search : with_table (default_choices Map) (parse_document (codes "search = \"live\"\nbudget = 20000\nnear = 20\nspread = 0\nfinest = 4\n"))
-    ≡ Ok (near_and_method (record { search = Live; claim = Best; spread = Percent 0; finest = 4; moves = 1000 }))
+    ≡ Ok (near_and_method (record { search = Live; claim = Best; spread = Percent 0; finest = 4; straight = 1000; moves = 0 }))
 unfolding toml_on_literals
 live_search = refl
 
@@ -71,12 +77,12 @@ other_search = refl
 
 -- a bound is asked for beside any search
 bound_alone : with_table (default_choices Make) (parse_document (codes "near = 20\nproof = \"bound\"\n"))
-    ≡ Ok (near_and_method (record { search = Live; claim = Bound; spread = Percent 0; finest = 4; moves = 0 }))
+    ≡ Ok (near_and_method (record { search = Live; claim = Bound; spread = Percent 0; finest = 4; straight = 0; moves = 0 }))
 unfolding toml_on_literals
 bound_alone = refl
 
 best_in_words : with_table (default_choices Make) (parse_document (codes "near = 20\nproof = \"best\"\n"))
-    ≡ Ok (near_and_method (record { search = Live; claim = Best; spread = Percent 0; finest = 4; moves = 0 }))
+    ≡ Ok (near_and_method (record { search = Live; claim = Best; spread = Percent 0; finest = 4; straight = 0; moves = 0 }))
 unfolding toml_on_literals
 best_in_words = refl
 
@@ -85,13 +91,22 @@ unfolding toml_on_literals
 other_claim = refl
 
 most_moves : with_table (default_choices Make) (parse_document (codes "near = 20\nmoves = 10000\n"))
-    ≡ Ok (near_and_method (record { search = Live; claim = Best; spread = Percent 0; finest = 4; moves = 10000 }))
+    ≡ Ok (near_and_method (record { search = Live; claim = Best; spread = Percent 0; finest = 4; straight = 0; moves = 10000 }))
 unfolding toml_on_literals
 most_moves = refl
 
 too_many_moves : with_table (default_choices Make) (parse_document (codes "moves = 10001\n")) ≡ Err (Key (codes "moves"))
 unfolding toml_on_literals
 too_many_moves = refl
+
+most_straightening : with_table (default_choices Make) (parse_document (codes "near = 20\nstraight = 10000\n"))
+    ≡ Ok (near_and_method (record { search = Live; claim = Best; spread = Percent 0; finest = 4; straight = 10000; moves = 0 }))
+unfolding toml_on_literals
+most_straightening = refl
+
+too_much_straightening : with_table (default_choices Make) (parse_document (codes "straight = 10001\n")) ≡ Err (Key (codes "straight"))
+unfolding toml_on_literals
+too_much_straightening = refl
 
 no_grid_between : with_table (default_choices Map) (parse_document (codes "finest = 12\n")) ≡ Err (Key (codes "finest"))
 unfolding toml_on_literals
@@ -121,8 +136,8 @@ too_important : told (codes "importance = { B = 17 }\n") ≡ Err (Key (codes "im
 unfolding toml_on_literals
 too_important = refl
 
-every_method : told (codes "near = 20\nsearch = \"dual\"\nproof = \"bound\"\nspread = 35\nfinest = 16\nmoves = 7\n")
-    ≡ Ok (near_and_method (record { search = Dual; claim = Bound; spread = Percent 35; finest = 16; moves = 7 }))
+every_method : told (codes "near = 20\nsearch = \"dual\"\nproof = \"bound\"\nspread = 35\nfinest = 16\nstraight = 5\nmoves = 7\n")
+    ≡ Ok (near_and_method (record { search = Dual; claim = Bound; spread = Percent 35; finest = 16; straight = 5; moves = 7 }))
 unfolding toml_on_literals
 every_method = refl
 
@@ -196,6 +211,12 @@ moves : are_read (codes "moves = -1\n" ∷ codes "moves = 0\n" ∷ codes "moves 
     ∷ []) ≡ false ∷ true ∷ true ∷ false ∷ []
 unfolding toml_on_literals
 moves = refl
+
+straightenings : are_read (codes "straight = -1\n" ∷ codes "straight = 0\n" ∷ codes "straight = 10000\n"
+    ∷ codes "straight = 10001\n" ∷ codes "straight = \"x\"\n" ∷ [])
+    ≡ false ∷ true ∷ true ∷ false ∷ false ∷ []
+unfolding toml_on_literals
+straightenings = refl
 
 importances : are_read (codes "importance = { A = 0 }\n" ∷ codes "importance = { A = 1 }\n"
     ∷ codes "importance = { A = 16 }\n" ∷ codes "importance = { A = 17 }\n" ∷ [])

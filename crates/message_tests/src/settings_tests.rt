@@ -13,7 +13,7 @@ fn a_bad_key_is_told_with_its_value(rt: HostRuntime) -> Result<(), Fail> {
         ),
         (
             "wheels = \"red\"\n",
-            "octimap: \"my.toml\": there is no key \"wheels\"; the keys are \"types\", \"near\", \"junction\", \"station\", \"importance\", \"cell\", \"spread\", \"finest\", \"moves\", \"search\", \"proof\", \"budget\"\n",
+            "octimap: \"my.toml\": there is no key \"wheels\"; the keys are \"types\", \"near\", \"junction\", \"station\", \"importance\", \"cell\", \"spread\", \"finest\", \"straight\", \"moves\", \"search\", \"proof\", \"budget\"\n",
         ),
         (
             "search = \"fast\"\n",
@@ -39,8 +39,20 @@ fn a_bad_value_of_set_is_told(rt: HostRuntime) -> Result<(), Fail> {
             "octimap: --set \"cell=5\": cell = 5, but cell has to be 0, or a whole number of decimetres from 10 to 1000000\n",
         ),
         (
+            "map --set straight=10001 feed map.svg map.cert",
+            "octimap: --set \"straight=10001\": straight = 10001, but straight has to be a whole number from 0 to 10000\n",
+        ),
+        (
+            "graph --set straight=\"x\" feed",
+            "octimap: --set \"straight=\"x\"\": straight = \"x\", but straight has to be a whole number from 0 to 10000\n",
+        ),
+        (
+            "graph --set straight=-1 feed",
+            "octimap: --set \"straight=-1\": straight = -1, but straight has to be a whole number from 0 to 10000\n",
+        ),
+        (
             "graph --set=type=[1] feed",
-            "octimap: --set \"type=[1]\": there is no key \"type\" (did you mean \"types\"?); the keys are \"types\", \"near\", \"junction\", \"station\", \"importance\", \"cell\", \"spread\", \"finest\", \"moves\", \"search\", \"proof\", \"budget\"\n",
+            "octimap: --set \"type=[1]\": there is no key \"type\" (did you mean \"types\"?); the keys are \"types\", \"near\", \"junction\", \"station\", \"importance\", \"cell\", \"spread\", \"finest\", \"straight\", \"moves\", \"search\", \"proof\", \"budget\"\n",
         ),
     ];
     for (words, line) in cases {
