@@ -20,3 +20,7 @@ mod price_tests;
 mod refused_tests;
 #[cfg(test)]
 mod session_tests;
+#[cfg(test)]
+mod straight_feeds;
+#[cfg(test)]
+mod straight_tests;

@@ -3,7 +3,7 @@
 ghost use Rattle.std.specs.Prelude.{◌≡◌, ◌<◌};
 
 use crate::answers::{both_texts, fault_text, made_text, settings_of, tables_of};
-use crate::feeds;
+use crate::{feeds, straight_feeds};
 use edit_session::Session;
 use map_base::Steps;
 use map_edits::{EditStop, read_edit};
@@ -71,5 +71,25 @@ fn a_refused_edit_changes_nothing(rt: HostRuntime) -> Result<(), Fail> {
         assert_eq!(rt; session.standing().len(), 0);
     }
     assert_eq!(rt; drawn(alloc, &mut session)?.as_str(), fresh.as_str());
+    Ok(())
+}
+
+/// A kept drawing is straightened, and it is made anew where the cells are others.
+#[test]
+fn draws_are_straightened_as_maps_are(rt: HostRuntime) -> Result<(), Fail> {
+    let alloc = rt.alloc();
+    let coarse = "cell = 2000\nstraight = 1000\n";
+    let fine = "cell = 1000\nstraight = 1000\n";
+    let all = settings_of(alloc, coarse)?;
+    let tables = tables_of(alloc, straight_feeds::TWO_WAYS, &all.settings)?;
+    let mut session = Session::begin(alloc, tables, all);
+    let coarse = made_text(alloc, straight_feeds::TWO_WAYS, coarse)?;
+    let fine = made_text(alloc, straight_feeds::TWO_WAYS, fine)?;
+    assert_eq!(rt; drawn(alloc, &mut session)?.as_str(), coarse.as_str());
+    assert_eq!(rt; drawn(alloc, &mut session)?.as_str(), coarse.as_str());
+    assert_eq!(rt; edit(alloc, &mut session, "cell\t1000"), Ok(()));
+    assert_eq!(rt; drawn(alloc, &mut session)?.as_str(), fine.as_str());
+    assert_eq!(rt; edit(alloc, &mut session, "undo"), Ok(()));
+    assert_eq!(rt; drawn(alloc, &mut session)?.as_str(), coarse.as_str());
     Ok(())
 }
