@@ -24,22 +24,23 @@ of_nothing = refl
 
 -- a key leaves the other defaults as they are
 least_near : with_table (default_choices Make) (parse_document (codes "near = 20\n"))
-    ≡ Ok (near_and_method (record { search = Live; claim = Best; spread = Percent 0; finest = 4; moves = 0 }))
+    ≡ Ok (near_and_method (record { search = Live; claim = Best; spread = Percent 0; finest = 4; straight = 0; moves = 0 }))
 unfolding toml_on_literals
 least_near = refl
 
 of_map : with_table (default_choices Map) (parse_document (codes "budget = 20000\nnear = 20\nfinest = 8\n"))
-    ≡ Ok (near_and_method (record { search = Dual; claim = Best; spread = Auto; finest = 8; moves = 1000 }))
+    ≡ Ok (near_and_method (record { search = Dual; claim = Best; spread = Auto; finest = 8; straight = 1000; moves = 0 }))
 unfolding toml_on_literals
 of_map = refl
 
-no_moves : with_table (default_choices Map) (parse_document (codes "budget = 20000\nnear = 20\nfinest = 8\nmoves = 0\n"))
-    ≡ Ok (near_and_method (record { search = Dual; claim = Best; spread = Auto; finest = 8; moves = 0 }))
+-- moves stay away where lines are not straightened, unless they are asked for
+not_straight : with_table (default_choices Map) (parse_document (codes "budget = 20000\nnear = 20\nfinest = 8\nstraight = 0\n"))
+    ≡ Ok (near_and_method (record { search = Dual; claim = Best; spread = Auto; finest = 8; straight = 0; moves = 0 }))
 unfolding toml_on_literals
-no_moves = refl
+not_straight = refl
 
 of_method : with_table (default_choices Make) (parse_document (codes "search = \"dual\"\nspread = \"auto\"\nnear = 20\nfinest = 8\n"))
-    ≡ Ok (near_and_method (record { search = Dual; claim = Best; spread = Auto; finest = 8; moves = 0 }))
+    ≡ Ok (near_and_method (record { search = Dual; claim = Best; spread = Auto; finest = 8; straight = 0; moves = 0 }))
 unfolding toml_on_literals
 of_method = refl
 
@@ -61,7 +62,7 @@ unfolding toml_on_literals
 spread_too_far = refl
 
 live_search : with_table (default_choices Map) (parse_document (codes "search = \"live\"\nbudget = 20000\nnear = 20\nspread = 0\nfinest = 4\n"))
-    ≡ Ok (near_and_method (record { search = Live; claim = Best; spread = Percent 0; finest = 4; moves = 1000 }))
+    ≡ Ok (near_and_method (record { search = Live; claim = Best; spread = Percent 0; finest = 4; straight = 1000; moves = 0 }))
 unfolding toml_on_literals
 live_search = refl
 
@@ -71,12 +72,12 @@ other_search = refl
 
 -- a bound is asked for beside any search
 bound_alone : with_table (default_choices Make) (parse_document (codes "near = 20\nproof = \"bound\"\n"))
-    ≡ Ok (near_and_method (record { search = Live; claim = Bound; spread = Percent 0; finest = 4; moves = 0 }))
+    ≡ Ok (near_and_method (record { search = Live; claim = Bound; spread = Percent 0; finest = 4; straight = 0; moves = 0 }))
 unfolding toml_on_literals
 bound_alone = refl
 
 best_in_words : with_table (default_choices Make) (parse_document (codes "near = 20\nproof = \"best\"\n"))
-    ≡ Ok (near_and_method (record { search = Live; claim = Best; spread = Percent 0; finest = 4; moves = 0 }))
+    ≡ Ok (near_and_method (record { search = Live; claim = Best; spread = Percent 0; finest = 4; straight = 0; moves = 0 }))
 unfolding toml_on_literals
 best_in_words = refl
 
@@ -85,9 +86,18 @@ unfolding toml_on_literals
 other_claim = refl
 
 most_moves : with_table (default_choices Make) (parse_document (codes "near = 20\nmoves = 10000\n"))
-    ≡ Ok (near_and_method (record { search = Live; claim = Best; spread = Percent 0; finest = 4; moves = 10000 }))
+    ≡ Ok (near_and_method (record { search = Live; claim = Best; spread = Percent 0; finest = 4; straight = 0; moves = 10000 }))
 unfolding toml_on_literals
 most_moves = refl
+
+most_straight : with_table (default_choices Make) (parse_document (codes "near = 20\nstraight = 10000\n"))
+    ≡ Ok (near_and_method (record { search = Live; claim = Best; spread = Percent 0; finest = 4; straight = 10000; moves = 0 }))
+unfolding toml_on_literals
+most_straight = refl
+
+too_straight : with_table (default_choices Make) (parse_document (codes "straight = 10001\n")) ≡ Err (Key (codes "straight"))
+unfolding toml_on_literals
+too_straight = refl
 
 too_many_moves : with_table (default_choices Make) (parse_document (codes "moves = 10001\n")) ≡ Err (Key (codes "moves"))
 unfolding toml_on_literals
@@ -121,8 +131,8 @@ too_important : told (codes "importance = { B = 17 }\n") ≡ Err (Key (codes "im
 unfolding toml_on_literals
 too_important = refl
 
-every_method : told (codes "near = 20\nsearch = \"dual\"\nproof = \"bound\"\nspread = 35\nfinest = 16\nmoves = 7\n")
-    ≡ Ok (near_and_method (record { search = Dual; claim = Bound; spread = Percent 35; finest = 16; moves = 7 }))
+every_method : told (codes "near = 20\nsearch = \"dual\"\nproof = \"bound\"\nspread = 35\nfinest = 16\nstraight = 5\nmoves = 7\n")
+    ≡ Ok (near_and_method (record { search = Dual; claim = Bound; spread = Percent 35; finest = 16; straight = 5; moves = 7 }))
 unfolding toml_on_literals
 every_method = refl
 
@@ -191,6 +201,11 @@ finest_grids : are_read (codes "finest = 2\n" ∷ codes "finest = 4\n" ∷ codes
     ≡ false ∷ true ∷ false ∷ true ∷ true ∷ false ∷ []
 unfolding toml_on_literals
 finest_grids = refl
+
+straights : are_read (codes "straight = -1\n" ∷ codes "straight = 0\n" ∷ codes "straight = 10000\n" ∷ codes "straight = 10001\n"
+    ∷ codes "straight = true\n" ∷ []) ≡ false ∷ true ∷ true ∷ false ∷ false ∷ []
+unfolding toml_on_literals
+straights = refl
 
 moves : are_read (codes "moves = -1\n" ∷ codes "moves = 0\n" ∷ codes "moves = 10000\n" ∷ codes "moves = \"auto\"\n"
     ∷ []) ≡ false ∷ true ∷ true ∷ false ∷ []
