@@ -13,7 +13,7 @@ fn a_bad_key_is_told_with_its_value(rt: HostRuntime) -> Result<(), Fail> {
         ),
         (
             "wheels = \"red\"\n",
-            "octimap: \"my.toml\": there is no key \"wheels\"; the keys are \"types\", \"near\", \"junction\", \"station\", \"importance\", \"cell\", \"spread\", \"finest\", \"moves\", \"search\", \"proof\", \"budget\"\n",
+            "octimap: \"my.toml\": there is no key \"wheels\"; the keys are \"types\", \"near\", \"junction\", \"station\", \"importance\", \"cell\", \"spread\", \"finest\", \"straight\", \"moves\", \"search\", \"proof\", \"budget\"\n",
         ),
         (
             "search = \"fast\"\n",
@@ -40,7 +40,7 @@ fn a_bad_value_of_set_is_told(rt: HostRuntime) -> Result<(), Fail> {
         ),
         (
             "graph --set=type=[1] feed",
-            "octimap: --set \"type=[1]\": there is no key \"type\" (did you mean \"types\"?); the keys are \"types\", \"near\", \"junction\", \"station\", \"importance\", \"cell\", \"spread\", \"finest\", \"moves\", \"search\", \"proof\", \"budget\"\n",
+            "octimap: --set \"type=[1]\": there is no key \"type\" (did you mean \"types\"?); the keys are \"types\", \"near\", \"junction\", \"station\", \"importance\", \"cell\", \"spread\", \"finest\", \"straight\", \"moves\", \"search\", \"proof\", \"budget\"\n",
         ),
     ];
     for (words, line) in cases {
