@@ -84,8 +84,8 @@ pub(crate) const MAP: &str =
 
 pub(crate) const AFTER_MAP: &str = "\
 The map is SVG 1.1. The certificate is text that `octimap check` reads, and any checker of yours may. Nothing is
-printed. SVG and CERT are two files; what they held before is lost. Finer grids are tried, a dense centre gets room, and
-line orders are searched for longer than by `make`.
+printed. SVG and CERT are two files; what they held before is lost. Finer grids are tried, a dense centre gets room,
+lines run straight, and line orders are searched for longer than by `make`.
 
 Example:
   octimap map examples/vienna-ubahn map.svg map.cert
@@ -107,7 +107,7 @@ The map is that of `octimap make`, its drawing after at most MOVES moves. A move
 where that makes the drawing lighter: each walk weighs what it costs and eight times its turns, each node three times
 the square of its distance from its first point. The line orders stay. It prints `improved BEFORE AFTER MADE`: what the
 drawing weighed, what it weighs now, and how many moves were made. SVG and CERT are two files; what they held before is
-lost. `map` makes up to 1000 moves by itself.
+lost. `map` has lines run straight by itself, and makes no moves.
 
 Example:
   octimap improve examples/vienna-ubahn map.svg map.cert 100";

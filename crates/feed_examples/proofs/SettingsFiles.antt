@@ -33,16 +33,16 @@ of_map : with_table (default_choices Map) (parse_document (codes "budget = 20000
 unfolding toml_on_literals
 of_map = refl
 
--- moves leave the straightening of a map as it is, and a map that isn't straightened is not moved
+-- moves leave the straightening of a map as it is, and a map that isn't straightened is not moved by itself
 map_with_moves : with_table (default_choices Map) (parse_document (codes "budget = 20000\nnear = 20\nfinest = 8\nmoves = 7\n"))
     ≡ Ok (near_and_method (record { search = Dual; claim = Best; spread = Auto; finest = 8; straight = 1000; moves = 7 }))
 unfolding toml_on_literals
 map_with_moves = refl
 
-not_straightened : with_table (default_choices Map) (parse_document (codes "budget = 20000\nnear = 20\nfinest = 8\nstraight = 0\n"))
+not_straight : with_table (default_choices Map) (parse_document (codes "budget = 20000\nnear = 20\nfinest = 8\nstraight = 0\n"))
     ≡ Ok (near_and_method (record { search = Dual; claim = Best; spread = Auto; finest = 8; straight = 0; moves = 0 }))
 unfolding toml_on_literals
-not_straightened = refl
+not_straight = refl
 
 of_method : with_table (default_choices Make) (parse_document (codes "search = \"dual\"\nspread = \"auto\"\nnear = 20\nfinest = 8\n"))
     ≡ Ok (near_and_method (record { search = Dual; claim = Best; spread = Auto; finest = 8; straight = 0; moves = 0 }))
@@ -95,18 +95,18 @@ most_moves : with_table (default_choices Make) (parse_document (codes "near = 20
 unfolding toml_on_literals
 most_moves = refl
 
+most_straight : with_table (default_choices Make) (parse_document (codes "near = 20\nstraight = 10000\n"))
+    ≡ Ok (near_and_method (record { search = Live; claim = Best; spread = Percent 0; finest = 4; straight = 10000; moves = 0 }))
+unfolding toml_on_literals
+most_straight = refl
+
+too_straight : with_table (default_choices Make) (parse_document (codes "straight = 10001\n")) ≡ Err (Key (codes "straight"))
+unfolding toml_on_literals
+too_straight = refl
+
 too_many_moves : with_table (default_choices Make) (parse_document (codes "moves = 10001\n")) ≡ Err (Key (codes "moves"))
 unfolding toml_on_literals
 too_many_moves = refl
-
-most_straightening : with_table (default_choices Make) (parse_document (codes "near = 20\nstraight = 10000\n"))
-    ≡ Ok (near_and_method (record { search = Live; claim = Best; spread = Percent 0; finest = 4; straight = 10000; moves = 0 }))
-unfolding toml_on_literals
-most_straightening = refl
-
-too_much_straightening : with_table (default_choices Make) (parse_document (codes "straight = 10001\n")) ≡ Err (Key (codes "straight"))
-unfolding toml_on_literals
-too_much_straightening = refl
 
 no_grid_between : with_table (default_choices Map) (parse_document (codes "finest = 12\n")) ≡ Err (Key (codes "finest"))
 unfolding toml_on_literals
@@ -207,16 +207,15 @@ finest_grids : are_read (codes "finest = 2\n" ∷ codes "finest = 4\n" ∷ codes
 unfolding toml_on_literals
 finest_grids = refl
 
+straights : are_read (codes "straight = -1\n" ∷ codes "straight = 0\n" ∷ codes "straight = 10000\n" ∷ codes "straight = 10001\n"
+    ∷ codes "straight = \"x\"\n" ∷ []) ≡ false ∷ true ∷ true ∷ false ∷ false ∷ []
+unfolding toml_on_literals
+straights = refl
+
 moves : are_read (codes "moves = -1\n" ∷ codes "moves = 0\n" ∷ codes "moves = 10000\n" ∷ codes "moves = \"auto\"\n"
     ∷ []) ≡ false ∷ true ∷ true ∷ false ∷ []
 unfolding toml_on_literals
 moves = refl
-
-straightenings : are_read (codes "straight = -1\n" ∷ codes "straight = 0\n" ∷ codes "straight = 10000\n"
-    ∷ codes "straight = 10001\n" ∷ codes "straight = \"x\"\n" ∷ [])
-    ≡ false ∷ true ∷ true ∷ false ∷ false ∷ []
-unfolding toml_on_literals
-straightenings = refl
 
 importances : are_read (codes "importance = { A = 0 }\n" ∷ codes "importance = { A = 1 }\n"
     ∷ codes "importance = { A = 16 }\n" ∷ codes "importance = { A = 17 }\n" ∷ [])

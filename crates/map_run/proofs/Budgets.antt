@@ -10,9 +10,9 @@ use Rattle.map_method.specs.Methods.{MethodChoices}
 use Rattle.map_method.specs.Defaults.{default_choices}
 use Rattle.transit_feed.specs.Feeds.{Feed}
 use Rattle.toml.specs.Data.{Data, Members}
-use Rattle.map_settings.specs.Values.{near_of, cell_of, budget_of, types_of, weights_of, importance_of, search_of, claim_of, spread_of, finest_of, moves_of}
+use Rattle.map_settings.specs.Values.{near_of, cell_of, budget_of, types_of, weights_of, importance_of, search_of, claim_of, spread_of, finest_of, straight_of, moves_of}
 use Rattle.map_settings.specs.Tables.{entries}
-use Rattle.map_settings.specs.Entries.{near_is, cell_is, budget_is, types_are, junction_is, station_is, importance_is, search_is, claim_is, spread_is, finest_is, moves_are, settings_change, method_change, is_of_method, in_settings, in_method, change_of}
+use Rattle.map_settings.specs.Entries.{near_is, cell_is, budget_is, types_are, junction_is, station_is, importance_is, search_is, claim_is, spread_is, finest_is, straight_is, moves_are, settings_change, method_change, is_of_method, in_settings, in_method, change_of}
 use Rattle.map_settings.specs.Outcome.{bad_keys, least, changed, after, set_outcome, sets_outcome, settings_outcome, unless_bad, table_outcome, with_table}
 use Rattle.map_settings.specs.declared.fault.SettingsWhy.{SettingsWhy}
 use Rattle.map_edits.specs.declared.edit.Edit.{Edit}
@@ -79,17 +79,18 @@ claim_kept change (Some a) each = each a
 
 method_tame : (entry : List ℕ × Data) → KeepClaim (method_change entry)
 method_tame entry =
-    by_tests (bytes_eq entry.0 (codes "search")) (bytes_eq entry.0 (codes "proof")) (bytes_eq entry.0 (codes "spread")) (bytes_eq entry.0 (codes "finest")) (bytes_eq entry.0 (codes "moves"))
+    by_tests (bytes_eq entry.0 (codes "search")) (bytes_eq entry.0 (codes "proof")) (bytes_eq entry.0 (codes "spread")) (bytes_eq entry.0 (codes "finest")) (bytes_eq entry.0 (codes "straight")) (bytes_eq entry.0 (codes "moves"))
   where
-    by_tests : (search proof spread finest moves : Bool)
+    by_tests : (search proof spread finest straight moves : Bool)
         → KeepClaim (if search then option_map search_is (search_of entry.1) else if proof then option_map claim_is (claim_of entry.1) else if spread then option_map spread_is (spread_of entry.1)
-        else if finest then option_map finest_is (finest_of entry.1) else if moves then option_map moves_are (moves_of entry.1) else None)
-    by_tests true proof spread finest moves = claim_kept search_is (search_of entry.1) (λ v a b e. e)
-    by_tests false true spread finest moves = claim_kept claim_is (claim_of entry.1) (λ v a b e. refl)
-    by_tests false false true finest moves = claim_kept spread_is (spread_of entry.1) (λ v a b e. e)
-    by_tests false false false true moves = claim_kept finest_is (finest_of entry.1) (λ v a b e. e)
-    by_tests false false false false true = claim_kept moves_are (moves_of entry.1) (λ v a b e. e)
-    by_tests false false false false false = tt
+        else if finest then option_map finest_is (finest_of entry.1) else if straight then option_map straight_is (straight_of entry.1) else if moves then option_map moves_are (moves_of entry.1) else None)
+    by_tests true proof spread finest straight moves = claim_kept search_is (search_of entry.1) (λ v a b e. e)
+    by_tests false true spread finest straight moves = claim_kept claim_is (claim_of entry.1) (λ v a b e. refl)
+    by_tests false false true finest straight moves = claim_kept spread_is (spread_of entry.1) (λ v a b e. e)
+    by_tests false false false true straight moves = claim_kept finest_is (finest_of entry.1) (λ v a b e. e)
+    by_tests false false false false true moves = claim_kept straight_is (straight_of entry.1) (λ v a b e. e)
+    by_tests false false false false false true = claim_kept moves_are (moves_of entry.1) (λ v a b e. e)
+    by_tests false false false false false false = tt
 
 -- the settings are alike, and the same is to be proved
 abbrev Alike : MapSettings → MapSettings → Type 0
