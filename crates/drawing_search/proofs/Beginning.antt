@@ -31,7 +31,6 @@ use Rattle.drawing_search.specs.declared.searching.Searched.{Searched}
 use Rattle.drawing_search.specs.Gains.{sketch_weight}
 use Rattle.drawing_search.specs.Searched.{found_on, IsSearched, IsSearchedOn}
 use Rattle.drawing_search.specs.Shown.{whole_sketch}
-use Rattle.drawing_search.specs.Tries.{IsSettled}
 use Rattle.drawing_search.specs.Trying.{walks_of, IsWhole}
 use Rattle.drawing_search.proofs.OnWalks.{same_weight, sketch_by_walks, IsGood}
 use Rattle.drawing_search.proofs.RunReads.{near_more}
@@ -147,6 +146,22 @@ from_places : (test : GridPoint → Bool) (ps : List GridPoint) → ((n : ℕ) �
 from_places test [] h = refl
 from_places test (p ∷ ps) h = and_from (test p) (list_all test ps) (h 0 (omega arith)) (from_places test ps (λ n below. h (suc n) (omega (arith, below))))
 
+-- what a drawing wants that is put on a board: the first points of its nodes lie there, and its walks
+pub record CanBegin (graph : GraphParts) (first : List GridPoint) (bounds : Bounds) (walks : List PlainWalk) : Type 0 where
+  pub bounds_fit : AreBounds bounds
+  pub points : length first ≡ length graph.kinds
+  pub each : length walks ≡ length graph.ends
+  pub inside : list_all (contains bounds) first ≡ true
+  pub even : list_all is_even first ≡ true
+  pub within : list_all (λ (w : PlainWalk). list_all (contains bounds) (points_of w)) walks ≡ true
+  pub near : All (λ (p : GridPoint). is_near 1920 p ≡ true) first
+
+-- and what it is there
+pub record HasBegun (graph : GraphParts) (ws : List PlainWalk) (k : Sketch) : Type 0 where
+  pub legal : IsLegalSketch graph k
+  pub whole : IsWhole k
+  pub walks : walks_of k ≡ ws
+
 -- the first drawing on its board
 module _ (graph : GraphParts) (fit : IsConsistent graph) (ws : List PlainWalk) (drawn : IsDrawn graph ws) (near : are_near 1900 ws ≡ true) (margin : ℕ) (small : margin ≤ 20) where
   pub begins_on_board : IsOnBoard graph (bounds_past margin ws) ws
@@ -174,42 +189,30 @@ module _ (graph : GraphParts) (fit : IsConsistent graph) (ws : List PlainWalk) (
 
   -- as it is read
   module _ (first : List GridPoint) (bounds : Bounds) (walks : List PlainWalk) (first_is : first ≡ points_all graph ws) (bounds_is : bounds ≡ bounds_past margin ws) (walks_is : walks ≡ ws) where
-    pub asked_bounds : AreBounds bounds
-    asked_bounds = subst AreBounds (sym bounds_is) begins_on_board.bounds_fit
-
-    pub asked_points : length first ≡ length graph.kinds
-    asked_points = ap length first_is ∙ points_many
-
-    pub asked_walks : length walks ≡ length graph.ends
-    asked_walks = ap length walks_is ∙ drawn.each
-
-    pub asked_inside : list_all (contains bounds) first ≡ true
-    asked_inside = ap₂ (λ (b : Bounds) (ps : List GridPoint). list_all (contains b) ps) bounds_is first_is ∙ first_inside
-
-    pub asked_even : list_all is_even first ≡ true
-    asked_even = ap (list_all is_even) first_is ∙ first_even
-
-    pub asked_within : list_all (λ (w : PlainWalk). list_all (contains bounds) (points_of w)) walks ≡ true
-    asked_within = ap₂ (λ (b : Bounds) (vs : List PlainWalk). list_all (λ (w : PlainWalk). list_all (contains b) (points_of w)) vs) bounds_is walks_is ∙ begins_on_board.within
-
-    pub asked_near : All (λ (p : GridPoint). is_near 1920 p ≡ true) first
-    asked_near = subst (All (λ (p : GridPoint). is_near 1920 p ≡ true)) (sym first_is) first_near
+    pub can_begin : CanBegin graph first bounds walks
+    can_begin = record {
+      bounds_fit = subst AreBounds (sym bounds_is) begins_on_board.bounds_fit;
+      points = ap length first_is ∙ points_many;
+      each = ap length walks_is ∙ drawn.each;
+      inside = ap₂ (λ (b : Bounds) (ps : List GridPoint). list_all (contains b) ps) bounds_is first_is ∙ first_inside;
+      even = ap (list_all is_even) first_is ∙ first_even;
+      within = ap₂ (λ (b : Bounds) (vs : List PlainWalk). list_all (λ (w : PlainWalk). list_all (contains b) (points_of w)) vs) bounds_is walks_is ∙ begins_on_board.within;
+      near = subst (All (λ (p : GridPoint). is_near 1920 p ≡ true)) (sym first_is) first_near;
+    }
 
     module _ (k : Sketch) (is : k ≡ whole_sketch bounds first walks) where
       whole_of : k ≡ whole_sketch (bounds_past margin ws) (points_all graph ws) ws
       whole_of = is ∙ ap₂ (λ (b : Bounds) (ps : List GridPoint). whole_sketch b ps walks) bounds_is first_is ∙ ap (whole_sketch (bounds_past margin ws) (points_all graph ws)) walks_is
 
-      pub begun_legal : IsLegalSketch graph k
-      begun_legal = subst (IsLegalSketch graph) (sym whole_of) good.legal
-
-      pub begun_whole : IsWhole k
-      begun_whole = subst IsWhole (sym whole_of) (whole_whole graph fit (bounds_past margin ws) ws begins_on_board)
-
-      pub begun_walks : walks_of k ≡ ws
-      begun_walks = ap walks_of whole_of ∙ walks_kept graph fit (bounds_past margin ws) ws begins_on_board
+      pub has_begun : HasBegun graph ws k
+      has_begun = record {
+        legal = subst (IsLegalSketch graph) (sym whole_of) good.legal;
+        whole = subst IsWhole (sym whole_of) (whole_whole graph fit (bounds_past margin ws) ws begins_on_board);
+        walks = ap walks_of whole_of ∙ walks_kept graph fit (bounds_past margin ws) ws begins_on_board;
+      }
 
       -- and what comes of passes from it
       pub begun_searched : {E : Type 0} (scale : Scale) (attempts : List Attempt) (at_once most : ℕ) (r : Result Searched E) → IfOk r (IsSearchedOn graph scale k.bounds attempts at_once most (walks_of k)) → IfOk r (IsSearched graph scale margin attempts at_once most ws)
       begun_searched scale attempts at_once most r searched =
-          subst (λ (vs : List PlainWalk). IfOk r (IsSearchedOn graph scale (bounds_past margin ws) attempts at_once most vs)) begun_walks
+          subst (λ (vs : List PlainWalk). IfOk r (IsSearchedOn graph scale (bounds_past margin ws) attempts at_once most vs)) has_begun.walks
           (subst (λ (b : Bounds). IfOk r (IsSearchedOn graph scale b attempts at_once most (walks_of k))) (ap (λ (j : Sketch). j.bounds) whole_of) searched)

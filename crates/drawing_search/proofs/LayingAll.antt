@@ -68,7 +68,7 @@ module _ (graph : GraphParts) (fit : IsConsistent graph) (scale : Scale) (first 
 
   module _ (c : Chain) (cs : List Chain) (l : LeastTurns) (ls : List LeastTurns) (k : Sketch) (ready : IsReady scale graph k (c ∷ cs) (l ∷ ls)) where
     -- the next run is laid
-    on : (mid : Sketch) → laid graph c k ≡ Some mid → IsLaidOn graph c k mid
+    pub on : (mid : Sketch) → laid graph c k ≡ Some mid → IsLaidOn graph c k mid
     on mid e = laid_on graph fit c k mid ready.legal (ready.runs c (inl refl)) (ready.clear c (inl refl)) e
 
     pub next_ready : (mid : Sketch) → laid graph c k ≡ Some mid → IsReady scale graph mid cs ls

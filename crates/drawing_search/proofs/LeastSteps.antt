@@ -48,4 +48,4 @@ never_small price free few most = record { each = refl; by = λ k. at k (cases_l
   where
     at : (k : ℕ) → (k < 9) ⊎ (9 ≤ k) → get_or (replicate 9 1125899906842624) k 0 ≤ 1125899906842624
     at k (inl less) = let is = get_or-replicate {A = ℕ} 9 k 1125899906842624 0 less in omega (arith, is)
-    at k (inr past) = let is = get_or_past (replicate 9 1125899906842624) k 0 past in omega (arith, is)
+    at k (inr past) = let is = get_or_past {X = ℕ} (replicate 9 1125899906842624) k 0 past in omega (arith, is)

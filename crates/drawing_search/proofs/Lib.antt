@@ -55,6 +55,7 @@ mod Moving
 mod Attempting
 mod AttemptCases
 mod Offs
+mod AttemptReads
 mod TriedGroups
 mod GroupOf
 mod Passes

@@ -12,10 +12,12 @@ use Rattle.graph_core.specs.Consistent.{IsConsistent}
 use Rattle.line_chains.specs.declared.chain.Chain.{Chain}
 use Rattle.octi_grid.specs.declared.point.GridPoint.{GridPoint}
 use Rattle.octi_grid.specs.Walks.{PlainWalk}
+use Rattle.segment_router.proofs.Places.{in_at}
 use Rattle.segment_router.proofs.SettledLemmas.{nowhere}
 use Rattle.drawing_weights.specs.Scales.{Scale}
 use Rattle.grid_board.specs.Points.{is_near}
 use Rattle.run_laying.specs.Laying.{Sketch}
+use Rattle.run_laying.specs.Runs.{IsRun}
 use Rattle.run_laying.specs.Sketches.{is_standing, lifted, point_of_node, IsLegalSketch}
 use Rattle.run_laying.proofs.Shown.{stands_below}
 use Rattle.drawing_search.specs.declared.group.Group.{Group}
@@ -71,6 +73,13 @@ pub record AreLeastLifted (scale : Scale) (graph : GraphParts) (first : List Gri
   pub least : HaveLeast scale graph k (take i runs) l.least.items
   pub small : All IsSmallLeast l.least.items
 
+-- what is known of a node that is taken off next
+pub record IsNodeReady (graph : GraphParts) (k : Sketch) (n : NodeId) : Type 0 where
+  pub legal : IsLegalSketch graph k
+  pub stands : is_standing k n.0 ≡ true
+  pub node : n.0 < length graph.kinds
+  pub near : is_near 2000 (point_of_node k n.0) ≡ true
+
 module _ (graph : GraphParts) (fit : IsConsistent graph) (old : Sketch) (h : IsLegalSketch graph old) (whole : IsWhole old) (nodes : List NodeId) (runs : List Chain) (g : IsGroup graph nodes runs) (scale : Scale) (first : List GridPoint) where
   abbrev weigh : Sketch → ℕ
   weigh k = sketch_weight scale graph first k
@@ -88,35 +97,72 @@ module _ (graph : GraphParts) (fit : IsConsistent graph) (old : Sketch) (h : IsL
     least = least;
   }
 
-  module _ (i : ℕ) (d : Chain) (below : i < length runs) (k : Sketch) (l : Lifted) (a : AreRunsLifted scale graph first old runs i k l) where
-    -- the next one may be
-    pub run_ready : IsTakable graph k (get_or runs i d)
-    run_ready = subst (λ (j : Sketch). IsTakable graph j (get_or runs i d)) (sym a.sketch) (taken graph fit old h whole nodes runs g i d below)
+  -- the run of an iteration, as it is read
+  module _ (rs : List Chain) (same : rs ≡ runs) (i : ℕ) (r : Chain) (is_read : r ≡ get_or rs i r) (read_below : i < length rs) where
+    below : i < length runs
+    below = subst (λ (v : List Chain). i < length v) same read_below
 
-    pub run_less : sketch_weight scale graph first k ≡ sketch_weight scale graph first (without_run k (get_or runs i d)) + run_gain scale graph first k (get_or runs i d)
-    run_less =
-        subst (λ (j : Sketch). sketch_weight scale graph first j ≡ sketch_weight scale graph first (without_run j (get_or runs i d)) + run_gain scale graph first j (get_or runs i d)) (sym a.sketch)
-        (run_weighs_then graph fit old h whole nodes runs g i d below scale first)
+    is_run : r ≡ get_or runs i r
+    is_run = is_read ∙ ap (λ (v : List Chain). get_or v i r) same
 
-    pub run_lifted : (new : Sketch) (m : Lifted) → new ≡ without_run k (get_or runs i d) → m.walks.items ≡ l.walks.items ++ walks_along k (get_or runs i d).steps → m.inner.items ≡ l.inner.items ++ points_along k (get_or runs i d).steps
-        → m.moved.items ≡ l.moved.items → m.rest + run_gain scale graph first k (get_or runs i d) ≡ l.rest → m.least.items ≡ l.least.items → AreRunsLifted scale graph first old runs (i + 1) new m
-    run_lifted new m is walks inner moved rest least = record {
-      sketch = is ∙ ap (λ (j : Sketch). without_run j (get_or runs i d)) a.sketch ∙ sym (fold_more without_run old runs i d below);
-      walks =
-          walks
-          ∙ ap₂ (λ (xs ys : List (SegId × PlainWalk)). xs ++ ys) a.walks (ap (λ (j : Sketch). walks_along j (get_or runs i d).steps) a.sketch ∙ same_walks_along graph fit old h whole nodes runs g i d below)
-          ∙ flat_map_more (λ (c : Chain). walks_along old c.steps) [] (take i runs) (get_or runs i d)
-          ∙ ap (flat_map (λ (c : Chain). walks_along old c.steps)) (sym (take_more runs i d below));
-      inner =
-          inner
-          ∙ ap₂ (λ (xs ys : List (NodeId × GridPoint)). xs ++ ys) a.inner (ap (λ (j : Sketch). points_along j (get_or runs i d).steps) a.sketch ∙ same_points_along graph fit old h whole nodes runs g i d below)
-          ∙ flat_map_more (λ (c : Chain). points_along old c.steps) [] (take i runs) (get_or runs i d)
-          ∙ ap (flat_map (λ (c : Chain). points_along old c.steps)) (sym (take_more runs i d below));
-      moved = moved ∙ a.moved;
-      rest = let less = run_less in let there = ap (sketch_weight scale graph first) is in omega (arith, less, there, rest, a.rest);
-      light = omega (arith, rest, a.light);
-      least = least ∙ a.least;
-    }
+    run_of_group : IsRun graph r
+    run_of_group = subst (IsRun graph) (sym is_run) (g.run (get_or runs i r) (in_at runs i r below))
+
+    module _ (k : Sketch) (l : Lifted) (a : AreRunsLifted scale graph first old runs i k l) where
+      -- it may be taken off
+      pub run_takable : IsTakable graph k r
+      run_takable = subst (IsTakable graph k) (sym is_run) (subst (λ (j : Sketch). IsTakable graph j (get_or runs i r)) (sym a.sketch) (taken graph fit old h whole nodes runs g i r below))
+
+      run_less : sketch_weight scale graph first k ≡ sketch_weight scale graph first (without_run k r) + run_gain scale graph first k r
+      run_less =
+          subst (λ (j : Sketch). sketch_weight scale graph first j ≡ sketch_weight scale graph first (without_run j r) + run_gain scale graph first j r) (sym a.sketch)
+          (subst (λ (c : Chain). sketch_weight scale graph first (fold without_run old (take i runs)) ≡ sketch_weight scale graph first (without_run (fold without_run old (take i runs)) c) + run_gain scale graph first (fold without_run old (take i runs)) c) (sym is_run)
+          (run_weighs_then graph fit old h whole nodes runs g i r below scale first))
+
+      -- it adds no more than what is on the board weighs
+      pub run_fits : run_gain scale graph first k r ≤ l.rest
+      run_fits = let less = run_less in omega (arith, less, a.rest)
+
+      pub run_lifted : (new : Sketch) (m : Lifted) → new ≡ without_run k r → m.walks.items ≡ l.walks.items ++ walks_along k r.steps → m.inner.items ≡ l.inner.items ++ points_along k r.steps
+          → m.moved.items ≡ l.moved.items → m.rest + run_gain scale graph first k r ≡ l.rest → m.least.items ≡ l.least.items → AreRunsLifted scale graph first old runs (i + 1) new m
+      run_lifted new m is walks inner moved rest least = record {
+        sketch = is ∙ ap₂ without_run a.sketch is_run ∙ sym (fold_more without_run old runs i r below);
+        walks =
+            walks
+            ∙ ap₂ (λ (xs ys : List (SegId × PlainWalk)). xs ++ ys) a.walks (ap₂ (λ (j : Sketch) (c : Chain). walks_along j c.steps) a.sketch is_run ∙ same_walks_along graph fit old h whole nodes runs g i r below)
+            ∙ flat_map_more (λ (c : Chain). walks_along old c.steps) [] (take i runs) (get_or runs i r)
+            ∙ ap (flat_map (λ (c : Chain). walks_along old c.steps)) (sym (take_more runs i r below));
+        inner =
+            inner
+            ∙ ap₂ (λ (xs ys : List (NodeId × GridPoint)). xs ++ ys) a.inner (ap₂ (λ (j : Sketch) (c : Chain). points_along j c.steps) a.sketch is_run ∙ same_points_along graph fit old h whole nodes runs g i r below)
+            ∙ flat_map_more (λ (c : Chain). points_along old c.steps) [] (take i runs) (get_or runs i r)
+            ∙ ap (flat_map (λ (c : Chain). points_along old c.steps)) (sym (take_more runs i r below));
+        moved = moved ∙ a.moved;
+        rest = let less = run_less in let there = ap (sketch_weight scale graph first) is in omega (arith, less, there, rest, a.rest);
+        light = omega (arith, rest, a.light);
+        least = least ∙ a.least;
+      }
+
+    -- and it has its bounds, where all of the group is off
+    module _ (k : Sketch) (l : Lifted) (a : AreLeastLifted scale graph first old nodes runs i k l) where
+      pub least_asks : IsLegalSketch graph k × IsRun graph r
+      least_asks = (subst (IsLegalSketch graph) (sym a.sketch) (lift_legal graph (fold without_run old runs) nodes (legal_then graph fit old h whole nodes runs g) (all_liftable graph fit old h whole nodes runs g)), run_of_group)
+
+      pub least_more : (m : Lifted) (x : LeastTurns) → IsLeastOf scale graph k r x → IsSmallLeast x → m.walks.items ≡ l.walks.items → m.inner.items ≡ l.inner.items → m.moved.items ≡ l.moved.items → m.rest ≡ l.rest
+          → m.least.items ≡ l.least.items ++ x ∷ [] → AreLeastLifted scale graph first old nodes runs (i + 1) k m
+      least_more m x is small walks inner moved rest least =
+          let one_more : take (i + 1) runs ≡ take i runs ++ r ∷ [] = take_more runs i r below ∙ ap (λ (c : Chain). take i runs ++ c ∷ []) (sym is_run) in
+          record {
+            sketch = a.sketch;
+            walks = walks ∙ a.walks;
+            inner = inner ∙ a.inner;
+            moved = moved ∙ a.moved;
+            rest = rest ∙ a.rest;
+            light = omega (arith, rest, a.light);
+            each = let one = length-append l.least.items (x ∷ []) in let more = ap length least in let front = ap length one_more ∙ length-append (take i runs) (r ∷ []) in omega (arith, one, more, front, a.each);
+            least = subst (λ (cs : List Chain). HaveLeast scale graph k cs m.least.items) (sym one_more) (subst (HaveLeast scale graph k (take i runs ++ r ∷ [])) (sym least) (have_push scale graph k (take i runs) l.least.items r x a.each a.least is));
+            small = subst (All IsSmallLeast) (sym least) (All-push IsSmallLeast l.least.items x a.small small);
+          }
 
   -- ---- nodes
 
@@ -137,41 +183,50 @@ module _ (graph : GraphParts) (fit : IsConsistent graph) (old : Sketch) (h : IsL
       all : take i runs ≡ runs
       all = take_all i runs past
 
-  module _ (i : ℕ) (d : NodeId) (below : i < length nodes) (k : Sketch) (l : Lifted) (a : AreNodesLifted scale graph first old nodes runs i k l) where
+  -- the node of an iteration, as it is read
+  module _ (ns : List NodeId) (same : ns ≡ nodes) (i : ℕ) (d : NodeId) (read_below : i < length ns) (k : Sketch) (l : Lifted) (a : AreNodesLifted scale graph first old nodes runs i k l) where
     abbrev n : NodeId
-    n = get_or nodes i d
+    n = get_or ns i d
+
+    node_at : i < length nodes
+    node_at = subst (λ (v : List NodeId). i < length v) same read_below
+
+    is_node : get_or ns i d ≡ get_or nodes i d
+    is_node = ap (λ (v : List NodeId). get_or v i d) same
 
     at : (IsLegalSketch graph (fold lifted k1 (take i nodes))) × (is_standing (fold lifted k1 (take i nodes)) n.0 ≡ true)
-    at = lifted_at graph k1 nodes (all_liftable graph fit old h whole nodes runs g) i d below
+    at =
+        subst (λ (m : NodeId). (IsLegalSketch graph (fold lifted k1 (take i nodes))) × (is_standing (fold lifted k1 (take i nodes)) m.0 ≡ true)) (sym is_node)
+        (lifted_at graph k1 nodes (all_liftable graph fit old h whole nodes runs g) i d node_at)
 
-    pub node_legal : IsLegalSketch graph k
-    node_legal = subst (IsLegalSketch graph) (sym a.sketch) at.0
-
-    pub node_stands : is_standing k (get_or nodes i d).0 ≡ true
-    node_stands = ap (λ (j : Sketch). is_standing j n.0) a.sketch ∙ at.1
-
-    pub node_below : (get_or nodes i d).0 < length graph.kinds
-    node_below = stands_below graph k node_legal n.0 node_stands
-
-    pub node_near : is_near 2000 (point_of_node k (get_or nodes i d).0) ≡ true
-    node_near = stands_near graph k node_legal n.0 node_stands
+    -- it stands, near the origin
+    pub node_ready : IsNodeReady graph k (get_or ns i d)
+    node_ready =
+        let legal = subst (IsLegalSketch graph) (sym a.sketch) at.0 in
+        let stands = ap (λ (j : Sketch). is_standing j n.0) a.sketch ∙ at.1 in
+        record { legal = legal; stands = stands; node = stands_below graph k legal n.0 stands; near = stands_near graph k legal n.0 stands }
 
     same_point : point_of_node k n.0 ≡ point_of_node old n.0
     same_point = ap (λ (j : Sketch). point_of_node j n.0) a.sketch ∙ ap (λ (ps : List GridPoint). get_or ps n.0 nowhere) (lift_points k1 (take i nodes) ∙ runs_points runs old)
 
-    pub node_less : sketch_weight scale graph first k ≡ sketch_weight scale graph first (lifted k (get_or nodes i d)) + apart_in scale first k (get_or nodes i d).0
-    node_less = node_weighs scale graph first k node_legal n node_stands
+    node_less : sketch_weight scale graph first k ≡ sketch_weight scale graph first (lifted k n) + apart_in scale first k n.0
+    node_less = node_weighs scale graph first k node_ready.legal n node_ready.stands
 
-    pub node_lifted : (new : Sketch) (m : Lifted) → new ≡ lifted k (get_or nodes i d) → m.walks.items ≡ l.walks.items → m.inner.items ≡ l.inner.items → m.moved.items ≡ l.moved.items ++ (get_or nodes i d, point_of_node k (get_or nodes i d).0) ∷ []
-        → m.rest + apart_in scale first k (get_or nodes i d).0 ≡ l.rest → m.least.items ≡ l.least.items → AreNodesLifted scale graph first old nodes runs (i + 1) new m
+    -- its distance weighs no more than what is on the board
+    pub node_fits : apart_in scale first k (get_or ns i d).0 ≤ l.rest
+    node_fits = let less = node_less in omega (arith, less, a.rest)
+
+    pub node_lifted : (new : Sketch) (m : Lifted) → new ≡ lifted k (get_or ns i d) → m.walks.items ≡ l.walks.items → m.inner.items ≡ l.inner.items → m.moved.items ≡ l.moved.items ++ (get_or ns i d, point_of_node k (get_or ns i d).0) ∷ []
+        → m.rest + apart_in scale first k (get_or ns i d).0 ≡ l.rest → m.least.items ≡ l.least.items → AreNodesLifted scale graph first old nodes runs (i + 1) new m
     node_lifted new m is walks inner moved rest least = record {
-      sketch = is ∙ ap (λ (j : Sketch). lifted j n) a.sketch ∙ sym (fold_more lifted k1 nodes i d below);
+      sketch = is ∙ ap₂ lifted a.sketch is_node ∙ sym (fold_more lifted k1 nodes i d node_at);
       walks = walks ∙ a.walks;
       inner = inner ∙ a.inner;
       moved =
           moved
           ∙ ap₂ (λ (xs : List (NodeId × GridPoint)) (p : GridPoint). xs ++ (n, p) ∷ []) a.moved same_point
-          ∙ sym (map_more (λ (m : NodeId). (m, point_of_node old m.0)) nodes i d below);
+          ∙ ap (λ (x : NodeId). map (λ (q : NodeId). (q, point_of_node old q.0)) (take i nodes) ++ (x, point_of_node old x.0) ∷ []) is_node
+          ∙ sym (map_more (λ (q : NodeId). (q, point_of_node old q.0)) nodes i d node_at);
       rest = let less = node_less in let there = ap (sketch_weight scale graph first) is in omega (arith, less, there, rest, a.rest);
       light = omega (arith, rest, a.light);
       least = least ∙ a.least;
@@ -194,25 +249,6 @@ module _ (graph : GraphParts) (fit : IsConsistent graph) (old : Sketch) (h : IsL
     where
       all : take i nodes ≡ nodes
       all = take_all i nodes past
-
-  pub least_more : (i : ℕ) (d : Chain) (k : Sketch) (l m : Lifted) (x : LeastTurns) → i < length runs → AreLeastLifted scale graph first old nodes runs i k l → IsLeastOf scale graph k (get_or runs i d) x → IsSmallLeast x → m.walks.items ≡ l.walks.items → m.inner.items ≡ l.inner.items
-      → m.moved.items ≡ l.moved.items → m.rest ≡ l.rest → m.least.items ≡ l.least.items ++ x ∷ [] → AreLeastLifted scale graph first old nodes runs (i + 1) k m
-  least_more i d k l m x below a is small walks inner moved rest least = record {
-    sketch = a.sketch;
-    walks = walks ∙ a.walks;
-    inner = inner ∙ a.inner;
-    moved = moved ∙ a.moved;
-    rest = rest ∙ a.rest;
-    light = omega (arith, rest, a.light);
-    each = let one = length-append l.least.items (x ∷ []) in let more = ap length least in let front = ap length (take_more runs i d below) ∙ length-append (take i runs) (get_or runs i d ∷ []) in omega (arith, one, more, front, a.each);
-    least =
-        subst (λ (cs : List Chain). HaveLeast scale graph k cs m.least.items) (sym (take_more runs i d below))
-        (subst (HaveLeast scale graph k (take i runs ++ get_or runs i d ∷ [])) (sym least) (have_push scale graph k (take i runs) l.least.items (get_or runs i d) x a.each a.least is));
-    small = subst (All IsSmallLeast) (sym least) (All-push IsSmallLeast l.least.items x a.small small);
-  }
-
-  pub least_legal : (i : ℕ) (k : Sketch) (l : Lifted) → AreLeastLifted scale graph first old nodes runs i k l → IsLegalSketch graph k
-  least_legal i k l a = subst (IsLegalSketch graph) (sym a.sketch) (lift_legal graph k1 nodes (legal_then graph fit old h whole nodes runs g) (all_liftable graph fit old h whole nodes runs g))
 
   -- so the group is off
   pub group_lifted : (b : Group) (i : ℕ) (k : Sketch) (l : Lifted) → b.nodes ≡ nodes → b.runs ≡ runs → length runs ≤ i → AreLeastLifted scale graph first old nodes runs i k l → IsLifted scale graph first b old k l

@@ -135,7 +135,7 @@ module _ (graph : GraphParts) (fit : IsConsistent graph) (whole old : Sketch) (h
   all_stand : (n : ℕ) → n < length graph.kinds → is_standing whole n ≡ true
   all_stand n below = complete.nodes n below
 
-  on_board : IsOnBoard graph whole.bounds (walks_of whole)
+  pub on_board : IsOnBoard graph whole.bounds (walks_of whole)
   on_board = whole_legal graph fit whole h complete
 
   same_begun : begun_on ≡ without_runs graph whole.bounds (walks_of whole) attempt
@@ -199,7 +199,7 @@ module _ (graph : GraphParts) (fit : IsConsistent graph) (whole old : Sketch) (h
 
   module _ (p : GridPoint) where
     at_default : (n : ℕ) → n < length graph.kinds → get_or begun_on.points n p ≡ point_of_node begun_on n
-    at_default n below = get_or_default begun_on.points n p (record { x = 0; y = 0 }) (omega (arith, below, begun_points))
+    at_default n below = get_or_default begun_on.points n p nowhere (omega (arith, below, begun_points))
 
     shown_there : (board_of old).is_node p ≡ true → list_any (stands_at begun_on nodes p) (range_with_len 0 (length begun_on.points)) ≡ true
     shown_there e =

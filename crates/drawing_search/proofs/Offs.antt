@@ -55,7 +55,7 @@ module _ (graph : GraphParts) (fit : IsConsistent graph) (scale : Scale) (first 
   pub moved_few : length l.moved.items ≤ 20000
   moved_few =
       let few = apart_few (length graph.kinds) g.nodes off.apart below in
-      omega (arith, few, fit.few_nodes, ap length off.lifted.moved, length-map g.nodes (λ (n : NodeId). (n, point_of_node off.whole n.0)))
+      omega (arith, few, fit.few_nodes, ap length off.lifted.moved, length-map {B = NodeId × GridPoint} g.nodes (λ (n : NodeId). (n, point_of_node off.whole n.0)))
 
   pub moved_there : has_room old v l.moved.items ≡ true → All (λ (m : NodeId × GridPoint). is_near 2000 (moved_by v m.1) ≡ true) l.moved.items
   moved_there room = λ i d h.

@@ -1,5 +1,5 @@
 -- What each step of a run wants that is laid along the walk that was found.
-use Rattle.std.proofs.Common.{◌≡◌, sym, ◌∙◌, ap, ap₂, subst, ℕ, ◌+◌, ◌<◌, ◌≤◌, Bool, true, nat_le, nat_lt, List, length, drop, get_or, map, Some, arith}
+use Rattle.std.proofs.Common.{◌≡◌, refl, sym, ◌∙◌, ap, ap₂, subst, ℕ, ◌+◌, ◌<◌, ◌≤◌, Bool, true, nat_le, nat_lt, List, [], length, drop, get_or, map, None, Some, arith}
 use Rattle.std.proofs.lemmas.List.{drop_all}
 use Rattle.std.proofs.lemmas.List.FromFn.{length-map-range_with_len}
 use Rattle.std.specs.List.{list_all, range_with_len}
@@ -13,12 +13,14 @@ use Rattle.octi_grid.specs.declared.dir.Dir.{Dir}
 use Rattle.octi_grid.specs.declared.point.GridPoint.{GridPoint}
 use Rattle.octi_grid.specs.Legal.{is_even}
 use Rattle.octi_grid.specs.Walks.{end_point, points_of, PlainWalk}
+use Rattle.grid_board.specs.declared.bounds.Bounds.{Bounds}
 use Rattle.grid_board.specs.Boards.{contains}
+use Rattle.segment_router.proofs.SettledLemmas.{nowhere}
 use Rattle.walk_search.specs.Routes.{if_within}
 use Rattle.run_laying.specs.Laying.{board_under, last_seg_of, run_walk, with_piece, with_pieces, Sketch}
 use Rattle.run_laying.specs.Pieces.{cut_place, cuts_at, even_steps, pieces_of, point_at}
 use Rattle.run_laying.specs.Runs.{IsRun}
-use Rattle.run_laying.specs.Sketches.{IsFreeFor, IsLegalSketch}
+use Rattle.run_laying.specs.Sketches.{walk_in, IsFreeFor, IsLegalSketch}
 use Rattle.run_laying.proofs.EvenCuts.{length-pieces}
 use Rattle.drawing_search.specs.Changes.{StandsAfter}
 use Rattle.drawing_search.specs.Tracks.{piece_along, IsTrack}
@@ -120,3 +122,81 @@ module _ (graph : GraphParts) (fit : IsConsistent graph) (k : Sketch) (h : IsLeg
   run_ends i at new past rest =
       all_laid_along graph most c k new w by.found by.enough
       (sym (ap₂ (λ (ts : List ChainStep) (vs : List PlainWalk). with_pieces graph at ts vs new) (drop_all i c.steps past) (drop_all i pieces (omega (arith, past, length-pieces w count)))) ∙ rest)
+
+-- ---- a run under way
+
+-- the run is laid up to step i, from which the rest of it comes
+pub record IsUnderWay (graph : GraphParts) (k : Sketch) (c : Chain) (most : ℕ) (ps : List GridPoint) (ds : List Dir) (cs : List ℕ) (i : ℕ) (at : NodeId) (mid : Sketch) : Type 0 where
+  pub walk : PlainWalk
+  pub by : IsCutRun graph k c most walk ps ds cs
+  pub bounds : mid.bounds ≡ k.bounds
+  pub rest : with_pieces graph at (drop i c.steps) (drop i (pieces_of walk (length c.steps))) mid ≡ with_pieces graph c.from c.steps (pieces_of walk (length c.steps)) k
+  pub left : i < length c.steps → IsLayingFrom graph at c.steps (pieces_of walk (length c.steps)) i mid (last_seg_of c) (end_of c).0
+
+-- what a step wants that is laid on a drawing, between two places of the walk
+pub record IsStepReady (graph : GraphParts) (k : Sketch) (inner : Bool) (t : ChainStep) (ps : List GridPoint) (ds : List Dir) (a b : ℕ) : Type 0 where
+  pub segment : t.seg.0 < length graph.ends
+  pub node : t.to.0 < length graph.kinds
+  pub legal : IsLegalSketch graph k
+  pub free : walk_in k t.seg ≡ None
+  pub to : StandsAfter inner k t.to.0 (point_at ps b)
+  pub order : a < b
+  pub within : b ≤ length ds
+  pub inside : list_all (contains k.bounds) ps ≡ true
+  pub even : is_even (point_at ps b) ≡ true
+
+module _ (graph : GraphParts) (fit : IsConsistent graph) (k : Sketch) (h : IsLegalSketch graph k) (c : Chain) (run : IsRun graph c) (free : IsFreeFor k c) (most : ℕ) (ps : List GridPoint) (ds : List Dir) (cs : List ℕ) (ts : List ChainStep) (same : ts ≡ c.steps) where
+  pub way_begins : (w : PlainWalk) → IsCutRun graph k c most w ps ds cs → IsUnderWay graph k c most ps ds cs 0 c.from k
+  way_begins w by = record { walk = w; by = by; bounds = refl; rest = refl; left = λ some. run_begins graph fit k h c run free most w ps ds cs by }
+
+  module _ (i : ℕ) (at : NodeId) (mid : Sketch) (u : IsUnderWay graph k c most ps ds cs i at mid) where
+    pub way_cuts : length cs ≡ length ts + 1
+    way_cuts = cuts_many graph fit k h c run free most u.walk ps ds cs u.by ∙ sym (ap (λ (v : List ChainStep). length v + 1) same)
+
+    module _ (below : i < length ts) (a b : ℕ) (start : a ≡ get_or cs i a) (end : b ≡ get_or cs (i + 1) b) (d : ChainStep) where
+      below_count : i < length c.steps
+      below_count = subst (λ (v : List ChainStep). i < length v) same below
+
+      same_step : get_or ts i d ≡ get_or c.steps i d
+      same_step = ap (λ (v : List ChainStep). get_or v i d) same
+
+      abbrev no_walk : PlainWalk
+      no_walk = record { start = nowhere; steps = [] }
+
+      pub step_ready : (inner : Bool) → inner ≡ nat_lt (i + 1) (length ts) → IsStepReady graph mid inner (get_or ts i d) ps ds a b
+      step_ready inner is =
+          subst (λ (t : ChainStep). IsStepReady graph mid inner t ps ds a b) (sym same_step)
+          (record {
+            segment = fits.segment;
+            node = fits.node;
+            legal = (u.left below_count).laying.legal;
+            free = fits.free;
+            to = stands_here graph fit k h c run free most u.walk ps ds cs u.by i a b a b below_count start end at mid (u.left below_count) d no_walk inner is_inner;
+            order = run_order graph fit k h c run free most u.walk ps ds cs u.by i a b a b below_count start end;
+            within = run_within graph fit k h c run free most u.walk ps ds cs u.by i a b a b below_count start end;
+            inside = ap (λ (z : Bounds). list_all (contains z) ps) u.bounds ∙ run_inside graph fit k h c run free most u.walk ps ds cs u.by;
+            even = run_even graph fit k h c run free most u.walk ps ds cs u.by i a b a b below_count start end;
+          })
+        where
+          is_inner : inner ≡ nat_lt (i + 1) (length c.steps)
+          is_inner = is ∙ ap (λ (v : List ChainStep). nat_lt (i + 1) (length v)) same
+
+          fits : IsStepOf graph inner (get_or c.steps i d) (get_or (pieces_of u.walk (length c.steps)) i no_walk) mid
+          fits = step_here graph fit k h c run free most u.walk ps ds cs u.by i a b a b below_count start end at mid (u.left below_count) d no_walk inner is_inner
+
+      pub step_laid : (new : Sketch) → new ≡ with_piece graph at (get_or ts i d) (piece_along ps ds a b) mid → IsUnderWay graph k c most ps ds cs (i + 1) (get_or ts i d).to new
+      step_laid new is =
+          subst (λ (t : ChainStep). IsUnderWay graph k c most ps ds cs (i + 1) t.to new) (sym same_step)
+          (record {
+            walk = u.walk;
+            by = u.by;
+            bounds = ap (λ (j : Sketch). j.bounds) is ∙ u.bounds;
+            rest = rest_further graph fit k h c run free most u.walk ps ds cs u.by i a b a b below_count start end at mid (u.left below_count) d no_walk new laid_there ∙ u.rest;
+            left = λ more. further_left graph fit k h c run free most u.walk ps ds cs u.by i a b a b below_count start end at mid (u.left below_count) d no_walk new laid_there more;
+          })
+        where
+          laid_there : new ≡ with_piece graph at (get_or c.steps i d) (piece_along ps ds a b) mid
+          laid_there = is ∙ ap (λ (t : ChainStep). with_piece graph at t (piece_along ps ds a b) mid) same_step
+
+    pub way_ends : length ts ≤ i → laid_within graph most c k ≡ Some mid
+    way_ends past = run_ends graph fit k h c run free most u.walk ps ds cs u.by i at mid (subst (λ (v : List ChainStep). length v ≤ i) same past) u.rest

@@ -1,12 +1,14 @@
 -- A search under way: passes over groups of attempts.
-use Rattle.std.proofs.Common.{◌≡◌, sym, ◌∙◌, ap, subst, ℕ, ◌+◌, ◌<◌, ◌≤◌, List, length, drop, min, get_or, arith}
+use Rattle.std.proofs.Common.{◌≡◌, sym, ◌∙◌, ap, ap₂, subst, ℕ, ◌+◌, ◌<◌, ◌≤◌, List, length, drop, min, get_or, arith}
 use Rattle.std.proofs.lemmas.List.{drop_all, drop_more}
 use Rattle.std.proofs.lemmas.List.Sums.{fold-append}
+use Rattle.std.specs.Prelude.{All}
 use Rattle.graph_core.specs.declared.parts.GraphParts.{GraphParts}
 use Rattle.graph_core.specs.Consistent.{IsConsistent}
 use Rattle.octi_grid.specs.declared.point.GridPoint.{GridPoint}
 use Rattle.octi_grid.specs.Walks.{PlainWalk}
 use Rattle.octi_grid.proofs.Members.{In}
+use Rattle.segment_router.proofs.Places.{all_in}
 use Rattle.drawing_weights.specs.Drawn.{points_all}
 use Rattle.drawing_weights.specs.Scales.{weight_by, Scale}
 use Rattle.grid_board.specs.declared.bounds.Bounds.{Bounds}
@@ -50,7 +52,10 @@ pub record IsBetweenPasses (scale : Scale) (graph : GraphParts) (first : List Pl
   pub few : made ≤ most
   pub no_heavier : weight ≤ before
 
-module _ (scale : Scale) (graph : GraphParts) (fit : IsConsistent graph) (first : List PlainWalk) (bounds : Bounds) (groups : List Group) (at_once most before : ℕ) (fits : (a : Attempt) → In a (attempts_of groups) → IsFitting graph a) where
+module _ (scale : Scale) (graph : GraphParts) (fit : IsConsistent graph) (first : List PlainWalk) (bounds : Bounds) (groups : List Group) (at_once most before : ℕ) (fitting : All (IsFitting graph) (attempts_of groups)) where
+  fits : (a : Attempt) → In a (attempts_of groups) → IsFitting graph a
+  fits a i = all_in (IsFitting graph) (attempts_of groups) a (λ k d h. fitting k d h) i
+
   abbrev result : Found
   result = after_passes (improving graph bounds (weight_by scale graph first)) (attempts_of groups) at_once most most (record { walks = first; made = 0 })
 
@@ -62,8 +67,15 @@ module _ (scale : Scale) (graph : GraphParts) (fit : IsConsistent graph) (first 
     pub passes_end : most ≤ made → (let f : Found = record { walks = walks_of k; made = made } in f) ≡ result
     passes_end full = passes_full (improving graph bounds (weight_by scale graph first)) (attempts_of groups) at_once most b.passes (found_of graph fit scale first bounds now) result full b.enough
 
-    module _ (room : made < most) (new : Sketch) (less more : ℕ) (settled : IsSettled scale graph (points_all graph first) new less)
-        (is : (let f : Tried = record { sketch = new; made = more } in f) ≡ after_tries scale graph (points_all graph first) (min most (made + at_once)) (attempts_of groups) (record { sketch = k; made = made })) where
+    -- what a pass came to, where the first points and how many attempts may be made are read
+    module _ (room : made < most) (new : Sketch) (less more : ℕ) (ps : List GridPoint) (limit : ℕ) (first_is : ps ≡ points_all graph first) (limit_is : limit ≡ min most (made + at_once)) (settled_read : IsSettled scale graph ps new less)
+        (tried_read : (let f : Tried = record { sketch = new; made = more } in f) ≡ after_tries scale graph ps limit (attempts_of groups) (record { sketch = k; made = made })) where
+      pub settled_then : IsSettled scale graph (points_all graph first) new less
+      settled_then = subst (λ (qs : List GridPoint). IsSettled scale graph qs new less) first_is settled_read
+
+      is : (let f : Tried = record { sketch = new; made = more } in f) ≡ after_tries scale graph (points_all graph first) (min most (made + at_once)) (attempts_of groups) (record { sketch = k; made = made })
+      is = tried_read ∙ ap₂ (λ (qs : List GridPoint) m. after_tries scale graph qs m (attempts_of groups) (record { sketch = k; made = made })) first_is limit_is
+
       abbrev come_to : Tried
       come_to = record { sketch = new; made = more }
 
@@ -84,7 +96,7 @@ module _ (scale : Scale) (graph : GraphParts) (fit : IsConsistent graph) (first 
           ∙ pass_none (improving graph bounds (weight_by scale graph first)) (attempts_of groups) at_once most b.passes (found_of graph fit scale first bounds now) result room b.enough (ap (λ (f : Found). f.made) (sym found) ∙ same)
 
       lighter : less ≤ weight
-      lighter = let down = after.lighter in let one = ap (λ (f : Tried). sketch_weight scale graph (points_all graph first) f.sketch) is in omega (arith, down, one, settled.weight_is, b.settled.weight_is)
+      lighter = let down = after.lighter in let one = ap (λ (f : Tried). sketch_weight scale graph (points_all graph first) f.sketch) is in omega (arith, down, one, settled_then.weight_is, b.settled.weight_is)
 
       pub good_then : IsGood graph bounds new
       good_then = subst (λ (f : Tried). IsGood graph bounds f.sketch) (sym is) there.good
@@ -99,7 +111,7 @@ module _ (scale : Scale) (graph : GraphParts) (fit : IsConsistent graph) (first 
           let up = rises other in
           let next = pass_some (improving graph bounds (weight_by scale graph first)) (attempts_of groups) at_once most b.passes (found_of graph fit scale first bounds now) result room b.enough (let same = ap (λ (f : Found). f.made) found in omega (arith, up, same)) in
           record {
-            settled = settled;
+            settled = settled_then;
             good = good_then;
             passes = next.0;
             enough = subst (λ (f : Found). IsEnough (improving graph bounds (weight_by scale graph first)) (attempts_of groups) at_once most next.0 f result) (sym found) next.1;

@@ -181,17 +181,22 @@ module _ (scale : Scale) (graph : GraphParts) (first : List GridPoint) (g : Grou
   tried_full full = record { next = whole; taken = taken; is = sym (ap (λ b. cond b before (with_tried before (tried scale graph first whole (attempt_by g v)))) (le-leb most made (omega (arith, full)))) }
 
   -- it was not made
-  pub tried_none : made < most → (new : Sketch) → CameOf scale graph first g v whole k new None → IsTriedFrom scale graph first g most v whole made new weight made l
-  tried_none room new came = record {
-    next = whole;
-    taken = record { settled = taken.settled; lifted = lifted_alike scale graph first g whole new k l came.1 taken.lifted; few = taken.few };
-    is = sym (ap (λ b. cond b before (with_tried before (tried scale graph first whole (attempt_by g v)))) (lt-leb most made room) ∙ ap (with_tried before) came.0);
-  }
+  pub tried_none : made < most → (new : Sketch) (less count : ℕ) → less ≡ weight → count ≡ made → CameOf scale graph first g v whole k new None → IsTriedFrom scale graph first g most v whole made new less count l
+  tried_none room new less count weight_is made_is came =
+      subst (λ n. IsTriedFrom scale graph first g most v whole made new n count l) (sym weight_is)
+      (subst (λ n. IsTriedFrom scale graph first g most v whole made new weight n l) (sym made_is)
+      (record {
+        next = whole;
+        taken = record { settled = taken.settled; lifted = lifted_alike scale graph first g whole new k l came.1 taken.lifted; few = taken.few };
+        is = sym (ap (λ b. cond b before (with_tried before (tried scale graph first whole (attempt_by g v)))) (lt-leb most made room) ∙ ap (with_tried before) came.0);
+      }))
 
   -- or it was
-  pub tried_some : made < most → (new : Sketch) (less : ℕ) → CameOf scale graph first g v whole k new (Some less) → (off : Sketch) (m : Lifted) → IsLifted scale graph first g new off m → IsTriedFrom scale graph first g most v whole made off less (made + 1) m
-  tried_some room new less came off m lifted = record {
-    next = new;
-    taken = record { settled = came.1; lifted = lifted; few = omega (arith, room) };
-    is = sym (ap (λ b. cond b before (with_tried before (tried scale graph first whole (attempt_by g v)))) (lt-leb most made room) ∙ ap (with_tried before) came.0);
-  }
+  pub tried_some : made < most → (new : Sketch) (less count : ℕ) → count ≡ made → CameOf scale graph first g v whole k new (Some less) → (off : Sketch) (m : Lifted) → IsLifted scale graph first g new off m → IsTriedFrom scale graph first g most v whole made off less (count + 1) m
+  tried_some room new less count made_is came off m lifted =
+      subst (λ n. IsTriedFrom scale graph first g most v whole made off less (n + 1) m) (sym made_is)
+      (record {
+        next = new;
+        taken = record { settled = came.1; lifted = lifted; few = omega (arith, room) };
+        is = sym (ap (λ b. cond b before (with_tried before (tried scale graph first whole (attempt_by g v)))) (lt-leb most made room) ∙ ap (with_tried before) came.0);
+      })

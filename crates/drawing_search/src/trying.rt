@@ -141,18 +141,19 @@ impl Search {
     {
         let runs = group.runs.as_slice();
         let moved = lifted.moved.as_slice();
+        let least = lifted.least.as_slice();
         if !self.has_room(moved, vector) {
             return Ok(None);
         }
         let aparts = aparts_after(field, moved, vector);
         let base = lifted.rest + aparts;
-        let ahead = self.least_gains(runs, &lifted.least, moved, vector);
+        let ahead = self.least_gains(runs, least, moved, vector);
         let at_least = base.saturating_add(ahead);
         if at_least >= self.weight {
             return Ok(None);
         }
         self.stand_moved(moved, vector);
-        match self.lay_all(alloc, field, runs, &lifted.least, base, ahead)? {
+        match self.lay_all(alloc, field, runs, least, base, ahead)? {
             None => {
                 self.lift_moved(field, moved);
                 Ok(None)

@@ -39,11 +39,10 @@ point-requires c =
     let can = (next c.args.field.graph.now c.loop-i.sketch c.args.steps.now c.loop-i.i c.loop-i.auto.i c.loop-i-test.true c.loop-i.invariant.can).0 in
     omega (arith, stands_below c.args.field.graph.now c.loop-i.sketch can.legal (get_or c.args.steps.now (c.loop-i.i - 1) none).to.0 can.stands, can.legal.points_each)
 
-pub lift-requires-clause-legal : goal.lift-requires-clause-legal
-lift-requires-clause-legal c = (next c.args.field.graph.now c.loop-i.sketch c.args.steps.now c.loop-i.i c.loop-i.auto.i c.loop-i-test.true c.loop-i.invariant.can).0.legal
-
-pub lift-requires-clause-stands : goal.lift-requires-clause-stands
-lift-requires-clause-stands c = (next c.args.field.graph.now c.loop-i.sketch c.args.steps.now c.loop-i.i c.loop-i.auto.i c.loop-i-test.true c.loop-i.invariant.can).0.stands
+pub lift-requires : goal.lift-requires
+lift-requires c =
+    let can = (next c.args.field.graph.now c.loop-i.sketch c.args.steps.now c.loop-i.i c.loop-i.auto.i c.loop-i-test.true c.loop-i.invariant.can).0 in
+    record { legal = can.legal; stands = can.stands }
 
 pub loop-i-preserved : goal.loop-i-preserved
 loop-i-preserved c =

@@ -16,10 +16,12 @@ use Rattle.run_laying.specs.Runs.{AreOnce, IsRun}
 use Rattle.run_laying.specs.Sketches.{lifted as lifted_off, walk_in, with_walk_of, IsLegalSketch}
 use Rattle.run_laying.proofs.RunFacts.{step_of}
 use Rattle.drawing_search.specs.declared.least.LeastTurns.{LeastTurns}
+use Rattle.drawing_search.specs.declared.lifting.Lifted.{Lifted}
 use Rattle.drawing_search.specs.Changes.{without_walks, AreLiftable}
 use Rattle.drawing_search.specs.Lifting.{points_along, walks_along}
 use Rattle.drawing_search.proofs.TakenOff.{off_legal}
 use Rattle.drawing_search.proofs.WalksOff.{once_rest, walks_off}
+use Rattle.drawing_search.proofs.lifting.lift_run.Goals.{in-Some+in_ok-push, in_default}
 use Rattle.drawing_search.proofs.lifting.lift_run.Goals as goal
 
 abbrev none : ChainStep
@@ -46,40 +48,35 @@ one_walk k new ts i o before walks once h came is listed =
 pub take_walk-requires-clause-segment : goal.take_walk-requires-clause-segment
 take_walk-requires-clause-segment c = segment_at c.args.field.graph.now c.args.run.now c.requires.takable.run c.as_slice-steps.result.now c.as_slice-steps.ensures c.loop-step.step-index c.loop-step-test.true
 
-pub loop-step-preserved-in-Continue-1 : goal.loop-step-preserved-in-Continue-1
-loop-step-preserved-in-Continue-1 c =
-    let ts = c.as_slice-steps.result.now in
-    let i = c.loop-step.step-index in
-    let k = c.loop-step.sketch in
-    let once : AreOnce ts = subst AreOnce (sym c.as_slice-steps.ensures) c.requires.takable.run.once in
-    record {
-      rest = ap (λ (j : Sketch). without_walks j (drop (i + 1) ts)) c.take_walk.ensures.rest ∙ sym (at_drop_more (without_walks k) ts i none c.loop-step-test.true) ∙ c.loop-step.invariant.rest;
-      legal = subst (IsLegalSketch c.args.field.graph.now) (sym c.take_walk.ensures.rest) (off_legal c.args.field.graph.now c.requires.field.graph k c.loop-step.invariant.legal (get_or ts i none).seg);
-      walks = one_walk k c.take_walk.new.self ts i (Some c.in-Some.walk) c.loop-step.lifted.walks.items _ once c.loop-step-test.true (sym c.in-Some.is ∙ c.take_walk.ensures.walk) c.take_walk.ensures.rest c.in_ok-push.ensures.items
-          ∙ c.loop-step.invariant.walks;
-      points = ap (λ (j : Sketch). j.points) c.take_walk.ensures.rest ∙ c.loop-step.invariant.points;
-      inner = c.loop-step.invariant.inner;
-      moved = c.loop-step.invariant.moved;
-      weight = c.loop-step.invariant.weight;
-      least = c.loop-step.invariant.least;
-    }
-
 pub loop-step-preserved : goal.loop-step-preserved
 loop-step-preserved c =
     let ts = c.as_slice-steps.result.now in
     let i = c.loop-step.step-index in
     let k = c.loop-step.sketch in
+    let old = c.loop-step.lifted in
+    let new = c.match-take_walk.lifted in
     let once : AreOnce ts = subst AreOnce (sym c.as_slice-steps.ensures) c.requires.takable.run.once in
+    let listed : new.walks.items ≡ old.walks.items ++ cons_option (option_map (λ (w : PlainWalk). ((get_or ts i none).seg, w)) c.take_walk.result) [] =
+    elim c.match-take_walk.branch [
+      | in-Some+in_ok-push w ↦ ap (λ (l : Lifted). l.walks.items) w.lifted-is ∙ w.in_ok-push.ensures.items
+          ∙ ap (λ (o : Option PlainWalk). old.walks.items ++ cons_option (option_map (λ (v : PlainWalk). ((get_or ts i none).seg, v)) o) []) (sym w.in-Some.is)
+      | in_default w ↦ ap (λ (l : Lifted). l.walks.items) w.lifted-is ∙ sym (append-nil old.walks.items)
+          ∙ ap (λ (o : Option PlainWalk). old.walks.items ++ cons_option (option_map (λ (v : PlainWalk). ((get_or ts i none).seg, v)) o) []) (sym w.in_default.is)
+    ] in
+    let kept : (new.inner.items ≡ old.inner.items) × (new.moved.items ≡ old.moved.items) × (new.rest ≡ old.rest) × (new.least.items ≡ old.least.items) =
+    elim c.match-take_walk.branch [
+      | in-Some+in_ok-push w ↦ (ap (λ (l : Lifted). l.inner.items) w.lifted-is, ap (λ (l : Lifted). l.moved.items) w.lifted-is, ap (λ (l : Lifted). l.rest) w.lifted-is, ap (λ (l : Lifted). l.least.items) w.lifted-is)
+      | in_default w ↦ (ap (λ (l : Lifted). l.inner.items) w.lifted-is, ap (λ (l : Lifted). l.moved.items) w.lifted-is, ap (λ (l : Lifted). l.rest) w.lifted-is, ap (λ (l : Lifted). l.least.items) w.lifted-is)
+    ] in
     record {
       rest = ap (λ (j : Sketch). without_walks j (drop (i + 1) ts)) c.take_walk.ensures.rest ∙ sym (at_drop_more (without_walks k) ts i none c.loop-step-test.true) ∙ c.loop-step.invariant.rest;
       legal = subst (IsLegalSketch c.args.field.graph.now) (sym c.take_walk.ensures.rest) (off_legal c.args.field.graph.now c.requires.field.graph k c.loop-step.invariant.legal (get_or ts i none).seg);
-      walks = one_walk k c.take_walk.new.self ts i None c.loop-step.lifted.walks.items c.loop-step.lifted.walks.items once c.loop-step-test.true (sym c.in_default.is ∙ c.take_walk.ensures.walk) c.take_walk.ensures.rest (sym (append-nil c.loop-step.lifted.walks.items))
-          ∙ c.loop-step.invariant.walks;
+      walks = one_walk k c.take_walk.new.self ts i c.take_walk.result old.walks.items new.walks.items once c.loop-step-test.true c.take_walk.ensures.walk c.take_walk.ensures.rest listed ∙ c.loop-step.invariant.walks;
       points = ap (λ (j : Sketch). j.points) c.take_walk.ensures.rest ∙ c.loop-step.invariant.points;
-      inner = c.loop-step.invariant.inner;
-      moved = c.loop-step.invariant.moved;
-      weight = c.loop-step.invariant.weight;
-      least = c.loop-step.invariant.least;
+      inner = kept.0 ∙ c.loop-step.invariant.inner;
+      moved = kept.1 ∙ c.loop-step.invariant.moved;
+      weight = kept.2 ∙ c.loop-step.invariant.weight;
+      least = kept.3 ∙ c.loop-step.invariant.least;
     }
 
 pub lift_between-requires : goal.lift_between-requires

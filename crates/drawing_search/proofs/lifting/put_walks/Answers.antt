@@ -1,4 +1,4 @@
-use Rattle.std.proofs.Common.{◌≡◌, sym, ◌∙◌, ap, subst, ℕ, ◌+◌, ◌<◌, ◌∷◌, ◌++◌, [], List, length, fold, get_or, drop, arith}
+use Rattle.std.proofs.Common.{◌≡◌, sym, ◌∙◌, ap, subst, ℕ, ◌+◌, ◌<◌, ◌∷◌, ◌++◌, [], List, length, fold, get_or, drop, arith, rules}
 use Rattle.std.proofs.lemmas.List.{at_drop_all, at_drop_more, drop_more, length_push}
 use Rattle.std.proofs.lemmas.Iterator.Adapters.{YieldsList-from_vec}
 use Rattle.std.proofs.lemmas.Iterator.Consumers.{YieldsList-end, YieldsList-turn}
@@ -13,31 +13,20 @@ next : (k : Sketch) (ms : List (SegId × PlainWalk)) (i : ℕ) (m : SegId × Pla
 next k ms i m h is can =
     subst (λ (x : SegId × PlainWalk). CanWalk k x.0 x.1 × CanWalkEach (walked_by k x) (drop (i + 1) ms)) (sym is) (subst (CanWalkEach k) (drop_more ms i m h) can)
 
-pub put_walk-requires-clause-segment : goal.put_walk-requires-clause-segment
-put_walk-requires-clause-segment c =
+pub put_walk-requires : goal.put_walk-requires
+put_walk-requires c =
     let ms = c.args.walks.items in
-    let t = YieldsList-turn (YieldsList-from_vec ms (cc) (cc)) c.loop-s.yielded _ c.loop-s.yielded_by _ _ (c.in-Some.s, c.in-Some.walk) c.in-Some.is c.next.ensures.steps in
-    (next c.loop-s.sketch ms (length c.loop-s.yielded) (c.in-Some.s, c.in-Some.walk) t.0 t.1 c.loop-s.invariant.can).0.segment
-
-pub put_walk-requires-clause-free : goal.put_walk-requires-clause-free
-put_walk-requires-clause-free c =
-    let ms = c.args.walks.items in
-    let t = YieldsList-turn (YieldsList-from_vec ms (cc) (cc)) c.loop-s.yielded _ c.loop-s.yielded_by _ _ (c.in-Some.s, c.in-Some.walk) c.in-Some.is c.next.ensures.steps in
-    (next c.loop-s.sketch ms (length c.loop-s.yielded) (c.in-Some.s, c.in-Some.walk) t.0 t.1 c.loop-s.invariant.can).0.free
-
-pub put_walk-requires-clause-inside : goal.put_walk-requires-clause-inside
-put_walk-requires-clause-inside c =
-    let ms = c.args.walks.items in
-    let t = YieldsList-turn (YieldsList-from_vec ms (cc) (cc)) c.loop-s.yielded _ c.loop-s.yielded_by _ _ (c.in-Some.s, c.in-Some.walk) c.in-Some.is c.next.ensures.steps in
-    (next c.loop-s.sketch ms (length c.loop-s.yielded) (c.in-Some.s, c.in-Some.walk) t.0 t.1 c.loop-s.invariant.can).0.inside
+    let t = YieldsList-turn (YieldsList-from_vec {s = c.into_iter-s-iterator.result} ms (search rules) (search rules)) c.loop-s.yielded c.loop-s.s-iterator c.loop-s.yielded_by c.next.result c.next.new.self (c.in-Some.s, c.in-Some.walk) c.in-Some.is c.next.ensures.steps in
+    let can = (next c.loop-s.sketch ms (length c.loop-s.yielded) (c.in-Some.s, c.in-Some.walk) t.0 t.1 c.loop-s.invariant.can).0 in
+    record { segment = can.segment; free = can.free; inside = can.inside }
 
 pub loop-s-preserved : goal.loop-s-preserved
 loop-s-preserved c =
     let ms = c.args.walks.items in
-    let m = (c.in-Some.s, c.in-Some.walk) in
+    let m : SegId × PlainWalk = (c.in-Some.s, c.in-Some.walk) in
     let done = c.loop-s.yielded in
     let k = c.loop-s.sketch in
-    let t = YieldsList-turn (YieldsList-from_vec ms (cc) (cc)) done _ c.loop-s.yielded_by _ _ m c.in-Some.is c.next.ensures.steps in
+    let t = YieldsList-turn (YieldsList-from_vec {s = c.into_iter-s-iterator.result} ms (search rules) (search rules)) done c.loop-s.s-iterator c.loop-s.yielded_by c.next.result c.next.new.self m c.in-Some.is c.next.ensures.steps in
     let more : length (done ++ m ∷ []) ≡ length done + 1 = length_push done m in
     record {
       rest = ap (λ i. fold walked_by c.put_walk.new.self (drop i ms)) more
@@ -52,5 +41,5 @@ loop-s-preserved c =
 pub returns : goal.returns
 returns c =
     let ms = c.args.walks.items in
-    let all = YieldsList-end (YieldsList-from_vec ms (cc) (cc)) c.loop-s.yielded _ c.loop-s.yielded_by _ _ c.in-None.is c.next.ensures.steps in
+    let all = YieldsList-end (YieldsList-from_vec {s = c.into_iter-s-iterator.result} ms (search rules) (search rules)) c.loop-s.yielded c.loop-s.s-iterator c.loop-s.yielded_by c.next.result c.next.new.self c.in-None.is c.next.ensures.steps in
     sym (at_drop_all (fold walked_by c.loop-s.sketch) ms (length c.loop-s.yielded) (omega (arith, all.1))) ∙ c.loop-s.invariant.rest

@@ -1,15 +1,12 @@
-use Rattle.std.proofs.Common.{◌≡◌, ◌∙◌, sym, ap, ap₂, subst, ◌+◌, ◌<◌, ◌≤◌, List, min, arith}
+use Rattle.std.proofs.Common.{◌≡◌, ◌∙◌, sym, ap, subst, ◌+◌, List, min, arith}
 use Rattle.octi_grid.specs.declared.point.GridPoint.{GridPoint}
-use Rattle.segment_router.proofs.Places.{all_in}
 use Rattle.drawing_weights.specs.Scales.{scale_of}
-use Rattle.run_laying.specs.Attempts.{Attempt}
-use Rattle.run_laying.specs.Runs.{IsFitting}
 use Rattle.drawing_search.specs.Gains.{sketch_weight}
 use Rattle.drawing_search.specs.Searched.{attempts_of}
-use Rattle.drawing_search.specs.Tries.{after_tries, IsSettled}
+use Rattle.drawing_search.specs.Tries.{IsSettled}
 use Rattle.drawing_search.specs.Trying.{walks_of}
 use Rattle.drawing_search.proofs.Beginning.{outcome_is, passes_begin}
-use Rattle.drawing_search.proofs.Searches.{good_then, no_heavier_then, passes_end, passes_more, passes_stop, rises}
+use Rattle.drawing_search.proofs.Searches.{good_then, no_heavier_then, passes_end, passes_more, passes_stop, rises, settled_then}
 use Rattle.drawing_search.proofs.searching.passes.Goals as goal
 
 pub loop-search-init : goal.loop-search-init
@@ -34,15 +31,14 @@ returns-then-search-made c =
     let k = c.args.sketch in
     let old = c.loop-search.search in
     let new = c.try_groups.new.self in
-    let settled = subst (λ (ps : List GridPoint). IsSettled (scale_of f.by) f.graph.now ps new.sketch new.weight) c.requires.first c.in_ok-try_groups.ensures.settled in
     let limit : c.min-limit.result ≡ min c.args.most (old.made + c.args.at_once) = omega (arith, c.min-limit.ensures, c.saturating_add-raised.ensures, c.ranges.most) in
-    let is =
-    c.in_ok-try_groups.ensures.tried
-    ∙ ap₂ (λ (ps : List GridPoint) m. after_tries (scale_of f.by) f.graph.now ps m (attempts_of c.args.groups.now) (record { sketch = old.sketch; made = old.made })) c.requires.first limit in
     outcome_is f.graph.now c.requires.field.graph (scale_of f.by) k c.requires.legal c.requires.whole (attempts_of c.args.groups.now) c.args.at_once c.args.most new.sketch new.weight new.made c.weight_of-before.result c.outcome_of.result
-    (good_then (scale_of f.by) f.graph.now c.requires.field.graph (walks_of k) k.bounds c.args.groups.now c.args.at_once c.args.most c.weight_of-before.result (λ (a : Attempt) i. all_in (IsFitting f.graph.now) (attempts_of c.args.groups.now) a (λ j d h. c.requires.fitting j d h) i) old.sketch old.weight old.made c.loop-search.invariant c.loop-search-test.true new.sketch new.weight new.made settled is) settled.weight_is (no_heavier_then (scale_of f.by) f.graph.now c.requires.field.graph (walks_of k) k.bounds c.args.groups.now c.args.at_once c.args.most c.weight_of-before.result (λ (a : Attempt) i. all_in (IsFitting f.graph.now) (attempts_of c.args.groups.now) a (λ j d h. c.requires.fitting j d h) i) old.sketch old.weight old.made c.loop-search.invariant c.loop-search-test.true new.sketch new.weight new.made settled is)
+    (good_then (scale_of f.by) f.graph.now c.requires.field.graph (walks_of k) k.bounds c.args.groups.now c.args.at_once c.args.most c.weight_of-before.result c.requires.fitting old.sketch old.weight old.made c.loop-search.invariant c.loop-search-test.true new.sketch new.weight new.made f.first.now c.min-limit.result c.requires.first limit c.in_ok-try_groups.ensures.settled c.in_ok-try_groups.ensures.tried)
+    (settled_then (scale_of f.by) f.graph.now c.requires.field.graph (walks_of k) k.bounds c.args.groups.now c.args.at_once c.args.most c.weight_of-before.result c.requires.fitting old.sketch old.weight old.made c.loop-search.invariant c.loop-search-test.true new.sketch new.weight new.made f.first.now c.min-limit.result c.requires.first limit c.in_ok-try_groups.ensures.settled c.in_ok-try_groups.ensures.tried).weight_is
+    (no_heavier_then (scale_of f.by) f.graph.now c.requires.field.graph (walks_of k) k.bounds c.args.groups.now c.args.at_once c.args.most c.weight_of-before.result c.requires.fitting old.sketch old.weight old.made c.loop-search.invariant c.loop-search-test.true new.sketch new.weight new.made f.first.now c.min-limit.result c.requires.first limit c.in_ok-try_groups.ensures.settled c.in_ok-try_groups.ensures.tried)
     (c.weight_of-before.ensures.weight ∙ ap (λ (ps : List GridPoint). sketch_weight (scale_of f.by) f.graph.now ps k) c.requires.first)
-    (passes_stop (scale_of f.by) f.graph.now c.requires.field.graph (walks_of k) k.bounds c.args.groups.now c.args.at_once c.args.most c.weight_of-before.result (λ (a : Attempt) i. all_in (IsFitting f.graph.now) (attempts_of c.args.groups.now) a (λ j d h. c.requires.fitting j d h) i) old.sketch old.weight old.made c.loop-search.invariant c.loop-search-test.true new.sketch new.weight new.made settled is c.if-search-made.true) c.outcome_of.ensures.drawing c.outcome_of.ensures.made c.outcome_of.ensures.before c.outcome_of.ensures.after
+    (passes_stop (scale_of f.by) f.graph.now c.requires.field.graph (walks_of k) k.bounds c.args.groups.now c.args.at_once c.args.most c.weight_of-before.result c.requires.fitting old.sketch old.weight old.made c.loop-search.invariant c.loop-search-test.true new.sketch new.weight new.made f.first.now c.min-limit.result c.requires.first limit c.in_ok-try_groups.ensures.settled c.in_ok-try_groups.ensures.tried c.if-search-made.true)
+    c.outcome_of.ensures.drawing c.outcome_of.ensures.made c.outcome_of.ensures.before c.outcome_of.ensures.after
 
 pub loop-search-smaller : goal.loop-search-smaller
 loop-search-smaller c =
@@ -50,12 +46,8 @@ loop-search-smaller c =
     let k = c.args.sketch in
     let old = c.loop-search.search in
     let new = c.try_groups.new.self in
-    let settled = subst (λ (ps : List GridPoint). IsSettled (scale_of f.by) f.graph.now ps new.sketch new.weight) c.requires.first c.in_ok-try_groups.ensures.settled in
     let limit : c.min-limit.result ≡ min c.args.most (old.made + c.args.at_once) = omega (arith, c.min-limit.ensures, c.saturating_add-raised.ensures, c.ranges.most) in
-    let is =
-    c.in_ok-try_groups.ensures.tried
-    ∙ ap₂ (λ (ps : List GridPoint) m. after_tries (scale_of f.by) f.graph.now ps m (attempts_of c.args.groups.now) (record { sketch = old.sketch; made = old.made })) c.requires.first limit in
-    let up = rises (scale_of f.by) f.graph.now c.requires.field.graph (walks_of k) k.bounds c.args.groups.now c.args.at_once c.args.most c.weight_of-before.result (λ (a : Attempt) i. all_in (IsFitting f.graph.now) (attempts_of c.args.groups.now) a (λ j d h. c.requires.fitting j d h) i) old.sketch old.weight old.made c.loop-search.invariant c.loop-search-test.true new.sketch new.weight new.made settled is c.if-search-made.false in
+    let up = rises (scale_of f.by) f.graph.now c.requires.field.graph (walks_of k) k.bounds c.args.groups.now c.args.at_once c.args.most c.weight_of-before.result c.requires.fitting old.sketch old.weight old.made c.loop-search.invariant c.loop-search-test.true new.sketch new.weight new.made f.first.now c.min-limit.result c.requires.first limit c.in_ok-try_groups.ensures.settled c.in_ok-try_groups.ensures.tried c.if-search-made.false in
     omega (arith, up, c.loop-search-test.true)
 
 pub loop-search-preserved : goal.loop-search-preserved
@@ -64,12 +56,8 @@ loop-search-preserved c =
     let k = c.args.sketch in
     let old = c.loop-search.search in
     let new = c.try_groups.new.self in
-    let settled = subst (λ (ps : List GridPoint). IsSettled (scale_of f.by) f.graph.now ps new.sketch new.weight) c.requires.first c.in_ok-try_groups.ensures.settled in
     let limit : c.min-limit.result ≡ min c.args.most (old.made + c.args.at_once) = omega (arith, c.min-limit.ensures, c.saturating_add-raised.ensures, c.ranges.most) in
-    let is =
-    c.in_ok-try_groups.ensures.tried
-    ∙ ap₂ (λ (ps : List GridPoint) m. after_tries (scale_of f.by) f.graph.now ps m (attempts_of c.args.groups.now) (record { sketch = old.sketch; made = old.made })) c.requires.first limit in
-    passes_more (scale_of f.by) f.graph.now c.requires.field.graph (walks_of k) k.bounds c.args.groups.now c.args.at_once c.args.most c.weight_of-before.result (λ (a : Attempt) i. all_in (IsFitting f.graph.now) (attempts_of c.args.groups.now) a (λ j d h. c.requires.fitting j d h) i) old.sketch old.weight old.made c.loop-search.invariant c.loop-search-test.true new.sketch new.weight new.made settled is c.if-search-made.false
+    passes_more (scale_of f.by) f.graph.now c.requires.field.graph (walks_of k) k.bounds c.args.groups.now c.args.at_once c.args.most c.weight_of-before.result c.requires.fitting old.sketch old.weight old.made c.loop-search.invariant c.loop-search-test.true new.sketch new.weight new.made f.first.now c.min-limit.result c.requires.first limit c.in_ok-try_groups.ensures.settled c.in_ok-try_groups.ensures.tried c.if-search-made.false
 
 -- or all attempts were made
 pub returns : goal.returns
@@ -80,4 +68,4 @@ returns c =
     outcome_is f.graph.now c.requires.field.graph (scale_of f.by) k c.requires.legal c.requires.whole (attempts_of c.args.groups.now) c.args.at_once c.args.most old.sketch old.weight old.made c.weight_of-before.result c.outcome_of-2.result
     c.loop-search.invariant.good c.loop-search.invariant.settled.weight_is c.loop-search.invariant.no_heavier
     (c.weight_of-before.ensures.weight ∙ ap (λ (ps : List GridPoint). sketch_weight (scale_of f.by) f.graph.now ps k) c.requires.first)
-    (passes_end (scale_of f.by) f.graph.now c.requires.field.graph (walks_of k) k.bounds c.args.groups.now c.args.at_once c.args.most c.weight_of-before.result (λ (a : Attempt) i. all_in (IsFitting f.graph.now) (attempts_of c.args.groups.now) a (λ j d h. c.requires.fitting j d h) i) old.sketch old.weight old.made c.loop-search.invariant c.loop-search-test.false) c.outcome_of-2.ensures.drawing c.outcome_of-2.ensures.made c.outcome_of-2.ensures.before c.outcome_of-2.ensures.after
+    (passes_end (scale_of f.by) f.graph.now c.requires.field.graph (walks_of k) k.bounds c.args.groups.now c.args.at_once c.args.most c.weight_of-before.result c.requires.fitting old.sketch old.weight old.made c.loop-search.invariant c.loop-search-test.false) c.outcome_of-2.ensures.drawing c.outcome_of-2.ensures.made c.outcome_of-2.ensures.before c.outcome_of-2.ensures.after

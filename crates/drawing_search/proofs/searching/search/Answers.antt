@@ -1,10 +1,10 @@
-use Rattle.std.proofs.Common.{◌≡◌, ◌∙◌, sym, ap, subst}
+use Rattle.std.proofs.Common.{◌∙◌, sym, ap, subst}
 use Rattle.drawing_weights.specs.Drawn.{points_all, IsDrawn}
 use Rattle.drawing_weights.specs.Scales.{scale_of}
 use Rattle.grid_board.specs.Points.{are_near}
 use Rattle.run_laying.specs.Attempts.{bounds_past}
 use Rattle.drawing_search.specs.Searched.{attempts_of}
-use Rattle.drawing_search.proofs.Beginning.{asked_bounds, asked_even, asked_inside, asked_near, asked_points, asked_walks, asked_within, begun_legal, begun_searched, begun_walks, begun_whole}
+use Rattle.drawing_search.proofs.Beginning.{begun_searched, can_begin, has_begun}
 use Rattle.drawing_search.proofs.searching.search.Goals as goal
 
 pub points_of-requires-clause-drawn : goal.points_of-requires-clause-drawn
@@ -13,95 +13,50 @@ points_of-requires-clause-drawn c = subst (IsDrawn c.args.graph.now) (sym (c.der
 pub bounds_past-requires-clause-near : goal.bounds_past-requires-clause-near
 bounds_past-requires-clause-near c = ap (are_near 1900) (c.deref-3.ensures.value ∙ c.into_vec-walks.ensures) ∙ c.requires.near
 
-pub sketch_of-requires-clause-bounds : goal.sketch_of-requires-clause-bounds
-sketch_of-requires-clause-bounds c =
+pub sketch_of-requires : goal.sketch_of-requires
+sketch_of-requires c =
     let g = c.args.graph.now in
     let ws = c.args.drawing.walks in
     let first = c.in_ok-first.ensures ∙ ap (points_all g) (c.deref.ensures.value ∙ c.into_vec-walks.ensures) in
     let bounds = c.in_ok-bounds.ensures ∙ ap (bounds_past c.args.margin) (c.deref-3.ensures.value ∙ c.into_vec-walks.ensures) in
-    asked_bounds g c.nodes-nodes.ensures.fits ws c.requires.drawn c.requires.near c.args.margin c.requires.margin c.deref-4.result.now c.in_ok-bounds.bounds c.into_vec-walks.result.items (c.deref-4.ensures.value ∙ first) bounds c.into_vec-walks.ensures
-
-pub sketch_of-requires-clause-points : goal.sketch_of-requires-clause-points
-sketch_of-requires-clause-points c =
-    let g = c.args.graph.now in
-    let ws = c.args.drawing.walks in
-    let first = c.in_ok-first.ensures ∙ ap (points_all g) (c.deref.ensures.value ∙ c.into_vec-walks.ensures) in
-    let bounds = c.in_ok-bounds.ensures ∙ ap (bounds_past c.args.margin) (c.deref-3.ensures.value ∙ c.into_vec-walks.ensures) in
-    asked_points g c.nodes-nodes.ensures.fits ws c.requires.drawn c.requires.near c.args.margin c.requires.margin c.deref-4.result.now c.in_ok-bounds.bounds c.into_vec-walks.result.items (c.deref-4.ensures.value ∙ first) bounds c.into_vec-walks.ensures
-
-pub sketch_of-requires-clause-walks : goal.sketch_of-requires-clause-walks
-sketch_of-requires-clause-walks c =
-    let g = c.args.graph.now in
-    let ws = c.args.drawing.walks in
-    let first = c.in_ok-first.ensures ∙ ap (points_all g) (c.deref.ensures.value ∙ c.into_vec-walks.ensures) in
-    let bounds = c.in_ok-bounds.ensures ∙ ap (bounds_past c.args.margin) (c.deref-3.ensures.value ∙ c.into_vec-walks.ensures) in
-    asked_walks g c.nodes-nodes.ensures.fits ws c.requires.drawn c.requires.near c.args.margin c.requires.margin c.deref-4.result.now c.in_ok-bounds.bounds c.into_vec-walks.result.items (c.deref-4.ensures.value ∙ first) bounds c.into_vec-walks.ensures
-
-pub sketch_of-requires-clause-inside : goal.sketch_of-requires-clause-inside
-sketch_of-requires-clause-inside c =
-    let g = c.args.graph.now in
-    let ws = c.args.drawing.walks in
-    let first = c.in_ok-first.ensures ∙ ap (points_all g) (c.deref.ensures.value ∙ c.into_vec-walks.ensures) in
-    let bounds = c.in_ok-bounds.ensures ∙ ap (bounds_past c.args.margin) (c.deref-3.ensures.value ∙ c.into_vec-walks.ensures) in
-    asked_inside g c.nodes-nodes.ensures.fits ws c.requires.drawn c.requires.near c.args.margin c.requires.margin c.deref-4.result.now c.in_ok-bounds.bounds c.into_vec-walks.result.items (c.deref-4.ensures.value ∙ first) bounds c.into_vec-walks.ensures
-
-pub sketch_of-requires-clause-even : goal.sketch_of-requires-clause-even
-sketch_of-requires-clause-even c =
-    let g = c.args.graph.now in
-    let ws = c.args.drawing.walks in
-    let first = c.in_ok-first.ensures ∙ ap (points_all g) (c.deref.ensures.value ∙ c.into_vec-walks.ensures) in
-    let bounds = c.in_ok-bounds.ensures ∙ ap (bounds_past c.args.margin) (c.deref-3.ensures.value ∙ c.into_vec-walks.ensures) in
-    asked_even g c.nodes-nodes.ensures.fits ws c.requires.drawn c.requires.near c.args.margin c.requires.margin c.deref-4.result.now c.in_ok-bounds.bounds c.into_vec-walks.result.items (c.deref-4.ensures.value ∙ first) bounds c.into_vec-walks.ensures
-
-pub sketch_of-requires-clause-within : goal.sketch_of-requires-clause-within
-sketch_of-requires-clause-within c =
-    let g = c.args.graph.now in
-    let ws = c.args.drawing.walks in
-    let first = c.in_ok-first.ensures ∙ ap (points_all g) (c.deref.ensures.value ∙ c.into_vec-walks.ensures) in
-    let bounds = c.in_ok-bounds.ensures ∙ ap (bounds_past c.args.margin) (c.deref-3.ensures.value ∙ c.into_vec-walks.ensures) in
-    asked_within g c.nodes-nodes.ensures.fits ws c.requires.drawn c.requires.near c.args.margin c.requires.margin c.deref-4.result.now c.in_ok-bounds.bounds c.into_vec-walks.result.items (c.deref-4.ensures.value ∙ first) bounds c.into_vec-walks.ensures
-
--- the field of the search, and the drawing that it begins with
-pub passes-requires-clause-field : goal.passes-requires-clause-field
-passes-requires-clause-field c =
-    let g = c.args.graph.now in
-    let ws = c.args.drawing.walks in
-    let first = c.in_ok-first.ensures ∙ ap (points_all g) (c.deref.ensures.value ∙ c.into_vec-walks.ensures) in
-    let bounds = c.in_ok-bounds.ensures ∙ ap (bounds_past c.args.margin) (c.deref-3.ensures.value ∙ c.into_vec-walks.ensures) in
+    let can = can_begin g c.nodes-nodes.ensures.fits ws c.requires.drawn c.requires.near c.args.margin c.requires.margin c.deref-4.result.now c.in_ok-bounds.bounds c.into_vec-walks.result.items (c.deref-4.ensures.value ∙ first) bounds c.into_vec-walks.ensures in
     record {
       graph = c.nodes-nodes.ensures.fits;
-      pairs = c.in_ok-pairs.ensures;
-      turns = c.requires.small;
-      overs = c.requires.overs;
-      aparts = c.requires.aparts;
-      held = c.requires.held;
-      first = asked_points g c.nodes-nodes.ensures.fits ws c.requires.drawn c.requires.near c.args.margin c.requires.margin c.deref-2.result.now c.in_ok-bounds.bounds c.into_vec-walks.result.items (c.deref-2.ensures.value ∙ first) bounds c.into_vec-walks.ensures;
-      near = asked_near g c.nodes-nodes.ensures.fits ws c.requires.drawn c.requires.near c.args.margin c.requires.margin c.deref-2.result.now c.in_ok-bounds.bounds c.into_vec-walks.result.items (c.deref-2.ensures.value ∙ first) bounds c.into_vec-walks.ensures;
+      bounds = can.bounds_fit;
+      points = can.points;
+      walks = can.each;
+      inside = can.inside;
+      even = can.even;
+      within = can.within;
     }
 
-pub passes-requires-clause-first : goal.passes-requires-clause-first
-passes-requires-clause-first c =
+-- the field of the search, and the drawing that it begins with
+pub passes-requires : goal.passes-requires
+passes-requires c =
     let g = c.args.graph.now in
     let ws = c.args.drawing.walks in
     let first = c.in_ok-first.ensures ∙ ap (points_all g) (c.deref.ensures.value ∙ c.into_vec-walks.ensures) in
     let bounds = c.in_ok-bounds.ensures ∙ ap (bounds_past c.args.margin) (c.deref-3.ensures.value ∙ c.into_vec-walks.ensures) in
-    c.deref-2.ensures.value ∙ first ∙ sym (ap (points_all g) (begun_walks g c.nodes-nodes.ensures.fits ws c.requires.drawn c.requires.near c.args.margin c.requires.margin c.deref-4.result.now c.in_ok-bounds.bounds c.into_vec-walks.result.items (c.deref-4.ensures.value ∙ first) bounds c.into_vec-walks.ensures c.in_ok-sketch.sketch c.in_ok-sketch.ensures))
-
-pub passes-requires-clause-legal : goal.passes-requires-clause-legal
-passes-requires-clause-legal c =
-    let g = c.args.graph.now in
-    let ws = c.args.drawing.walks in
-    let first = c.in_ok-first.ensures ∙ ap (points_all g) (c.deref.ensures.value ∙ c.into_vec-walks.ensures) in
-    let bounds = c.in_ok-bounds.ensures ∙ ap (bounds_past c.args.margin) (c.deref-3.ensures.value ∙ c.into_vec-walks.ensures) in
-    begun_legal g c.nodes-nodes.ensures.fits ws c.requires.drawn c.requires.near c.args.margin c.requires.margin c.deref-4.result.now c.in_ok-bounds.bounds c.into_vec-walks.result.items (c.deref-4.ensures.value ∙ first) bounds c.into_vec-walks.ensures c.in_ok-sketch.sketch c.in_ok-sketch.ensures
-
-pub passes-requires-clause-whole : goal.passes-requires-clause-whole
-passes-requires-clause-whole c =
-    let g = c.args.graph.now in
-    let ws = c.args.drawing.walks in
-    let first = c.in_ok-first.ensures ∙ ap (points_all g) (c.deref.ensures.value ∙ c.into_vec-walks.ensures) in
-    let bounds = c.in_ok-bounds.ensures ∙ ap (bounds_past c.args.margin) (c.deref-3.ensures.value ∙ c.into_vec-walks.ensures) in
-    begun_whole g c.nodes-nodes.ensures.fits ws c.requires.drawn c.requires.near c.args.margin c.requires.margin c.deref-4.result.now c.in_ok-bounds.bounds c.into_vec-walks.result.items (c.deref-4.ensures.value ∙ first) bounds c.into_vec-walks.ensures c.in_ok-sketch.sketch c.in_ok-sketch.ensures
+    let can = can_begin g c.nodes-nodes.ensures.fits ws c.requires.drawn c.requires.near c.args.margin c.requires.margin c.deref-2.result.now c.in_ok-bounds.bounds c.into_vec-walks.result.items (c.deref-2.ensures.value ∙ first) bounds c.into_vec-walks.ensures in
+    let begun = has_begun g c.nodes-nodes.ensures.fits ws c.requires.drawn c.requires.near c.args.margin c.requires.margin c.deref-4.result.now c.in_ok-bounds.bounds c.into_vec-walks.result.items (c.deref-4.ensures.value ∙ first) bounds c.into_vec-walks.ensures c.in_ok-sketch.sketch c.in_ok-sketch.ensures in
+    record {
+      field = record {
+        graph = c.nodes-nodes.ensures.fits;
+        pairs = c.in_ok-pairs.ensures;
+        turns = c.requires.small;
+        overs = c.requires.overs;
+        aparts = c.requires.aparts;
+        held = c.requires.held;
+        first = can.points;
+        near = can.near;
+      };
+      first = c.deref-2.ensures.value ∙ first ∙ sym (ap (points_all g) begun.walks);
+      legal = begun.legal;
+      whole = begun.whole;
+      fitting = c.requires.fitting;
+      apart = c.requires.apart;
+      lengths = c.requires.lengths;
+    }
 
 pub returns : goal.returns
 returns c =

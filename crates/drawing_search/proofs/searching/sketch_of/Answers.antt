@@ -1,4 +1,4 @@
-use Rattle.std.proofs.Common.{◌≡◌, refl, sym, ◌∙◌, ap, subst, ◌+◌, ◌-◌, ◌<◌, ◌∷◌, ◌++◌, [], List, length, map, get_or, Some, arith}
+use Rattle.std.proofs.Common.{◌≡◌, refl, sym, ◌∙◌, ap, subst, ◌-◌, ◌<◌, ◌∷◌, ◌++◌, [], List, length, map, get_or, Some, arith, rules}
 use Rattle.std.proofs.lemmas.List.{length_push}
 use Rattle.std.proofs.lemmas.Iterator.Adapters.{YieldsList-from_vec}
 use Rattle.std.proofs.lemmas.Iterator.Consumers.{YieldsList-end, YieldsList-turn}
@@ -66,14 +66,14 @@ loop-walk-init c =
 pub put_walk-requires-clause-segment : goal.put_walk-requires-clause-segment
 put_walk-requires-clause-segment c =
     let ws = c.args.walks.items in
-    let t = YieldsList-turn (YieldsList-from_vec ws (cc) (cc)) c.loop-walk.yielded _ c.loop-walk.yielded_by _ _ c.in-Some.walk c.in-Some.is c.next.ensures.steps in
+    let t = YieldsList-turn (YieldsList-from_vec {s = c.into_iter-walk-iterator.result} ws (search rules) (search rules)) c.loop-walk.yielded c.loop-walk.walk-iterator c.loop-walk.yielded_by c.next.result c.next.new.self c.in-Some.walk c.in-Some.is c.next.ensures.steps in
     let some : 0 < length ws - length c.loop-walk.yielded = omega (arith, t.0) in
     omega (arith, ap (λ (k : Sketch). length k.walks) c.loop-walk.invariant.sketch, c.loop-walk.invariant.count, walk_below c.args.bounds c.args.points.now c.loop-walk.yielded (length ws - length c.loop-walk.yielded) some)
 
 pub put_walk-requires-clause-free : goal.put_walk-requires-clause-free
 put_walk-requires-clause-free c =
     let ws = c.args.walks.items in
-    let t = YieldsList-turn (YieldsList-from_vec ws (cc) (cc)) c.loop-walk.yielded _ c.loop-walk.yielded_by _ _ c.in-Some.walk c.in-Some.is c.next.ensures.steps in
+    let t = YieldsList-turn (YieldsList-from_vec {s = c.into_iter-walk-iterator.result} ws (search rules) (search rules)) c.loop-walk.yielded c.loop-walk.walk-iterator c.loop-walk.yielded_by c.next.result c.next.new.self c.in-Some.walk c.in-Some.is c.next.ensures.steps in
     let some : 0 < length ws - length c.loop-walk.yielded = omega (arith, t.0) in
     ap (λ (k : Sketch). walk_in k (record { 0 = c.loop-walk.s })) c.loop-walk.invariant.sketch
     ∙ ap (λ i. walk_in (with_walks c.args.bounds c.args.points.now c.loop-walk.yielded (length ws - length c.loop-walk.yielded)) (record { 0 = i })) c.loop-walk.invariant.count
@@ -82,17 +82,22 @@ put_walk-requires-clause-free c =
 pub put_walk-requires-clause-inside : goal.put_walk-requires-clause-inside
 put_walk-requires-clause-inside c =
     let ws = c.args.walks.items in
-    let t = YieldsList-turn (YieldsList-from_vec ws (cc) (cc)) c.loop-walk.yielded _ c.loop-walk.yielded_by _ _ c.in-Some.walk c.in-Some.is c.next.ensures.steps in
+    let t = YieldsList-turn (YieldsList-from_vec {s = c.into_iter-walk-iterator.result} ws (search rules) (search rules)) c.loop-walk.yielded c.loop-walk.walk-iterator c.loop-walk.yielded_by c.next.result c.next.new.self c.in-Some.walk c.in-Some.is c.next.ensures.steps in
     let w = c.in-Some.walk in
     ap (λ (k : Sketch). list_all (contains k.bounds) (points_of w)) c.loop-walk.invariant.sketch
     ∙ ap (λ (x : PlainWalk). list_all (contains c.args.bounds) (points_of x)) t.1
     ∙ all_place (λ (x : PlainWalk). list_all (contains c.args.bounds) (points_of x)) ws (length c.loop-walk.yielded) w c.requires.within t.0
 
+pub overflow_add-s : goal.overflow_add-s
+overflow_add-s c =
+    let t = YieldsList-turn (YieldsList-from_vec {s = c.into_iter-walk-iterator.result} c.args.walks.items (search rules) (search rules)) c.loop-walk.yielded c.loop-walk.walk-iterator c.loop-walk.yielded_by c.next.result c.next.new.self c.in-Some.walk c.in-Some.is c.next.ensures.steps in
+    omega (arith, t.0, c.loop-walk.invariant.count, c.requires.walks, c.requires.graph.few_segments)
+
 pub loop-walk-preserved : goal.loop-walk-preserved
 loop-walk-preserved c =
     let ws = c.args.walks.items in
     let done = c.loop-walk.yielded in
-    let t = YieldsList-turn (YieldsList-from_vec ws (cc) (cc)) done _ c.loop-walk.yielded_by _ _ c.in-Some.walk c.in-Some.is c.next.ensures.steps in
+    let t = YieldsList-turn (YieldsList-from_vec {s = c.into_iter-walk-iterator.result} ws (search rules) (search rules)) done c.loop-walk.walk-iterator c.loop-walk.yielded_by c.next.result c.next.new.self c.in-Some.walk c.in-Some.is c.next.ensures.steps in
     let w = c.in-Some.walk in
     let left = length ws - length done in
     let some : 0 < left = omega (arith, t.0) in
@@ -110,7 +115,7 @@ loop-walk-preserved c =
 pub returns : goal.returns
 returns c =
     let ws = c.args.walks.items in
-    let all = YieldsList-end (YieldsList-from_vec ws (cc) (cc)) c.loop-walk.yielded _ c.loop-walk.yielded_by _ _ c.in-None.is c.next.ensures.steps in
+    let all = YieldsList-end (YieldsList-from_vec {s = c.into_iter-walk-iterator.result} ws (search rules) (search rules)) c.loop-walk.yielded c.loop-walk.walk-iterator c.loop-walk.yielded_by c.next.result c.next.new.self c.in-None.is c.next.ensures.steps in
     let end : c.loop-walk.yielded ≡ ws = sym (same c.loop-walk.yielded) ∙ all.0 in
     let none : length ws - length c.loop-walk.yielded ≡ 0 = omega (arith, all.1) in
     c.loop-walk.invariant.sketch

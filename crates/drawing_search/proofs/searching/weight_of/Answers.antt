@@ -10,6 +10,9 @@ use Rattle.drawing_search.proofs.searching.weight_of.Goals as goal
 sum_more : (f : ℕ → ℕ) (n : ℕ) → sum_by f (range_with_len 0 (n + 1)) ≡ sum_by f (range_with_len 0 n) + f n
 sum_more f n = let same : 0 + n ≡ n = omega arith in ap (sum_by f) (range_more 0 n ∙ ap (λ k. range_with_len 0 n ++ k ∷ []) same) ∙ sum_by_push f (range_with_len 0 n) n
 
+pub overflow_add-total : goal.overflow_add-total
+overflow_add-total c = omega (arith, c.loop-s.invariant.small, c.walk_at-total.ensures.small, c.loop-s-test.true, c.segs-s-end.ensures, c.requires.field.graph.few_segments)
+
 pub loop-s-preserved : goal.loop-s-preserved
 loop-s-preserved c =
     let more = sum_more (λ s. segment_weight (scale_of c.args.field.by) c.args.sketch.now (record { 0 = s })) c.loop-s.s in
@@ -24,6 +27,10 @@ loop-n-init c =
 
 pub node_weight-total-requires-clause-stands : goal.node_weight-total-requires-clause-stands
 node_weight-total-requires-clause-stands c = c.requires.whole.nodes c.loop-n.n (omega (arith, c.loop-n-test.true, c.nodes-n-end.ensures.count, c.requires.legal.stand_each))
+
+pub overflow_add-total-in-loop-n : goal.overflow_add-total-in-loop-n
+overflow_add-total-in-loop-n c =
+    omega (arith, c.loop-n.invariant.small, c.node_weight-total.ensures.small, c.loop-n-test.true, c.nodes-n-end.ensures.count, c.requires.field.graph.few_nodes, c.requires.field.graph.few_segments)
 
 pub loop-n-preserved : goal.loop-n-preserved
 loop-n-preserved c =

@@ -1,27 +1,22 @@
-use Rattle.std.proofs.Common.{◌≡◌, refl, sym, ◌∙◌, ap, subst, ◌+◌, ◌<◌, ◌≤◌, true, false, nat_le, nat_lt, List, [], length, arith}
-use Rattle.std.specs.List.{list_all}
+use Rattle.std.proofs.Common.{◌≡◌, refl, sym, ◌∙◌, ap, subst, ◌+◌, ◌<◌, true, false, nat_le, nat_lt, List, length, arith}
+use Rattle.std.proofs.lemmas.Result.{err_from_is_err_and}
 use Rattle.std.specs.Prelude.{option_map, vec_items}
 use Rattle.line_chains.specs.declared.chain.ChainStep.{ChainStep}
 use Rattle.octi_grid.specs.declared.point.GridPoint.{GridPoint}
 use Rattle.octi_grid.specs.Legal.{is_even}
-use Rattle.octi_grid.specs.Walks.{PlainWalk}
-use Rattle.grid_board.specs.Boards.{contains}
-use Rattle.grid_board.specs.declared.bounds.Bounds.{Bounds}
-use Rattle.segment_router.proofs.SettledLemmas.{nowhere}
-use Rattle.run_laying.specs.Laying.{Sketch}
 use Rattle.run_laying.specs.Pieces.{even_steps, point_at}
 use Rattle.drawing_search.proofs.FewSteps.{run_few}
 use Rattle.drawing_search.proofs.Laid.{cuts_none, none_laid, uncut_laid}
 use Rattle.drawing_search.proofs.LaySteps.{few_points, first_even, some_points}
 use Rattle.drawing_search.proofs.RunReads.{no_step}
-use Rattle.drawing_search.proofs.RunSteps.{cut_run, cuts_many, further_left, rest_further, run_begins, run_ends, run_even, run_inside, run_order, run_within, stands_here, step_here}
+use Rattle.drawing_search.proofs.RunSteps.{cut_run, step_laid, step_ready, way_begins, way_cuts, way_ends}
 use Rattle.drawing_search.proofs.sketch.Sketch.lay.Goals as goal
-
-abbrev no_walk : PlainWalk
-no_walk = record { start = nowhere; steps = [] }
 
 pub returns-in_default : goal.returns-in_default
 returns-in_default c = (none_laid c.args.graph.now c.args.most c.args.run.now c.args.self.now (sym c.in_default.is ∙ c.in_ok-walk.ensures), refl)
+
+pub returns-in_err-track : goal.returns-in_err-track
+returns-in_err-track c = let p = err_from_is_err_and c.from_residual-in_err-track.result c.from_residual-in_err-track.ensures.1 in rw p.1 tt
 
 pub cuts-requires-clause-pieces : goal.cuts-requires-clause-pieces
 cuts-requires-clause-pieces c = omega (arith, c.requires.run.some, ap length c.as_slice-steps.ensures)
@@ -47,6 +42,9 @@ cuts-requires-clause-even c =
     subst (λ (ps : List GridPoint). is_even (point_at ps 0) ≡ true) (sym c.in_ok-track.ensures.points)
     (first_even c.args.graph.now c.requires.graph c.args.self.now c.requires.legal c.args.run.now c.requires.run c.requires.free c.args.most c.in-Some.walk found)
 
+pub returns-in_err-cuts : goal.returns-in_err-cuts
+returns-in_err-cuts c = let p = err_from_is_err_and c.from_residual-in_err-cuts.result c.from_residual-in_err-cuts.ensures.1 in rw p.1 tt
+
 pub returns-in_default-2 : goal.returns-in_default-2
 returns-in_default-2 c =
     let found = sym c.in-Some.is ∙ c.in_ok-walk.ensures in
@@ -59,111 +57,46 @@ returns-in_default-2 c =
 
 pub loop-i-init : goal.loop-i-init
 loop-i-init c =
-    let by =
-    cut_run c.args.graph.now c.args.self.now c.args.run.now c.args.most c.in-Some.walk c.in_ok-track.track.points.items c.in_ok-track.track.steps.items c.in-Some-2.cuts.items c.as_slice-steps.result.now
-    (sym c.in-Some.is ∙ c.in_ok-walk.ensures) c.in_ok-track.ensures.points c.in_ok-track.ensures.steps c.in_ok-track.ensures.track c.as_slice-steps.ensures (sym (ap (option_map vec_items) c.in-Some-2.is) ∙ c.in_ok-cuts.ensures) in
-    record { bounds = refl; rest = refl; left = λ some. run_begins c.args.graph.now c.requires.graph c.args.self.now c.requires.legal c.args.run.now c.requires.run c.requires.free c.args.most c.in-Some.walk c.in_ok-track.track.points.items c.in_ok-track.track.steps.items c.in-Some-2.cuts.items by }
+    way_begins c.args.graph.now c.requires.graph c.args.self.now c.requires.legal c.args.run.now c.requires.run c.requires.free c.args.most c.in_ok-track.track.points.items c.in_ok-track.track.steps.items c.in-Some-2.cuts.items c.as_slice-steps.result.now c.as_slice-steps.ensures
+    c.in-Some.walk
+    (cut_run c.args.graph.now c.args.self.now c.args.run.now c.args.most c.in-Some.walk c.in_ok-track.track.points.items c.in_ok-track.track.steps.items c.in-Some-2.cuts.items c.as_slice-steps.result.now
+    (sym c.in-Some.is ∙ c.in_ok-walk.ensures) c.in_ok-track.ensures.points c.in_ok-track.ensures.steps c.in_ok-track.ensures.track c.as_slice-steps.ensures (sym (ap (option_map vec_items) c.in-Some-2.is) ∙ c.in_ok-cuts.ensures))
 
 pub index-requires : goal.index-requires
 index-requires c =
-    let by =
-    cut_run c.args.graph.now c.args.self.now c.args.run.now c.args.most c.in-Some.walk c.in_ok-track.track.points.items c.in_ok-track.track.steps.items c.in-Some-2.cuts.items c.as_slice-steps.result.now
-    (sym c.in-Some.is ∙ c.in_ok-walk.ensures) c.in_ok-track.ensures.points c.in_ok-track.ensures.steps c.in_ok-track.ensures.track c.as_slice-steps.ensures (sym (ap (option_map vec_items) c.in-Some-2.is) ∙ c.in_ok-cuts.ensures) in
-    let many = cuts_many c.args.graph.now c.requires.graph c.args.self.now c.requires.legal c.args.run.now c.requires.run c.requires.free c.args.most c.in-Some.walk c.in_ok-track.track.points.items c.in_ok-track.track.steps.items c.in-Some-2.cuts.items by in
-    omega (arith, many, c.loop-i-test.true, ap length c.as_slice-steps.ensures, c.in-Some-2.cuts.ok.0)
+    let many = way_cuts c.args.graph.now c.requires.graph c.args.self.now c.requires.legal c.args.run.now c.requires.run c.requires.free c.args.most c.in_ok-track.track.points.items c.in_ok-track.track.steps.items c.in-Some-2.cuts.items c.as_slice-steps.result.now c.as_slice-steps.ensures
+    c.loop-i.i c.loop-i.at c.loop-i.self c.loop-i.invariant in
+    omega (arith, many, c.loop-i-test.true, c.in-Some-2.cuts.ok.0)
 
 pub index-requires-in-loop-i : goal.index-requires-in-loop-i
 index-requires-in-loop-i c =
-    let by =
-    cut_run c.args.graph.now c.args.self.now c.args.run.now c.args.most c.in-Some.walk c.in_ok-track.track.points.items c.in_ok-track.track.steps.items c.in-Some-2.cuts.items c.as_slice-steps.result.now
-    (sym c.in-Some.is ∙ c.in_ok-walk.ensures) c.in_ok-track.ensures.points c.in_ok-track.ensures.steps c.in_ok-track.ensures.track c.as_slice-steps.ensures (sym (ap (option_map vec_items) c.in-Some-2.is) ∙ c.in_ok-cuts.ensures) in
-    let many = cuts_many c.args.graph.now c.requires.graph c.args.self.now c.requires.legal c.args.run.now c.requires.run c.requires.free c.args.most c.in-Some.walk c.in_ok-track.track.points.items c.in_ok-track.track.steps.items c.in-Some-2.cuts.items by in
-    omega (arith, many, c.loop-i-test.true, ap length c.as_slice-steps.ensures, c.in-Some-2.cuts.ok.0)
+    let many = way_cuts c.args.graph.now c.requires.graph c.args.self.now c.requires.legal c.args.run.now c.requires.run c.requires.free c.args.most c.in_ok-track.track.points.items c.in_ok-track.track.steps.items c.in-Some-2.cuts.items c.as_slice-steps.result.now c.as_slice-steps.ensures
+    c.loop-i.i c.loop-i.at c.loop-i.self c.loop-i.invariant in
+    omega (arith, many, c.loop-i-test.true, c.in-Some-2.cuts.ok.0)
 
-pub lay_step-requires-clause-segment : goal.lay_step-requires-clause-segment
-lay_step-requires-clause-segment c =
-    let by =
-    cut_run c.args.graph.now c.args.self.now c.args.run.now c.args.most c.in-Some.walk c.in_ok-track.track.points.items c.in_ok-track.track.steps.items c.in-Some-2.cuts.items c.as_slice-steps.result.now
-    (sym c.in-Some.is ∙ c.in_ok-walk.ensures) c.in_ok-track.ensures.points c.in_ok-track.ensures.steps c.in_ok-track.ensures.track c.as_slice-steps.ensures (sym (ap (option_map vec_items) c.in-Some-2.is) ∙ c.in_ok-cuts.ensures) in
-    let below : c.loop-i.i < length c.args.run.now.steps = omega (arith, c.loop-i-test.true, ap length c.as_slice-steps.ensures) in
-    (step_here c.args.graph.now c.requires.graph c.args.self.now c.requires.legal c.args.run.now c.requires.run c.requires.free c.args.most c.in-Some.walk c.in_ok-track.track.points.items c.in_ok-track.track.steps.items c.in-Some-2.cuts.items by c.loop-i.i c.index.result.now c.index-in-loop-i.result.now c.index.result.now c.index-in-loop-i.result.now below c.index.ensures c.index-in-loop-i.ensures c.loop-i.at c.loop-i.self (c.loop-i.invariant.left below) no_step no_walk (nat_lt (c.loop-i.i + 1) (length c.as_slice-steps.result.now)) (ap (λ (ts : List ChainStep). nat_lt (c.loop-i.i + 1) (length ts)) c.as_slice-steps.ensures)).segment
-
-pub lay_step-requires-clause-node : goal.lay_step-requires-clause-node
-lay_step-requires-clause-node c =
-    let by =
-    cut_run c.args.graph.now c.args.self.now c.args.run.now c.args.most c.in-Some.walk c.in_ok-track.track.points.items c.in_ok-track.track.steps.items c.in-Some-2.cuts.items c.as_slice-steps.result.now
-    (sym c.in-Some.is ∙ c.in_ok-walk.ensures) c.in_ok-track.ensures.points c.in_ok-track.ensures.steps c.in_ok-track.ensures.track c.as_slice-steps.ensures (sym (ap (option_map vec_items) c.in-Some-2.is) ∙ c.in_ok-cuts.ensures) in
-    let below : c.loop-i.i < length c.args.run.now.steps = omega (arith, c.loop-i-test.true, ap length c.as_slice-steps.ensures) in
-    (step_here c.args.graph.now c.requires.graph c.args.self.now c.requires.legal c.args.run.now c.requires.run c.requires.free c.args.most c.in-Some.walk c.in_ok-track.track.points.items c.in_ok-track.track.steps.items c.in-Some-2.cuts.items by c.loop-i.i c.index.result.now c.index-in-loop-i.result.now c.index.result.now c.index-in-loop-i.result.now below c.index.ensures c.index-in-loop-i.ensures c.loop-i.at c.loop-i.self (c.loop-i.invariant.left below) no_step no_walk (nat_lt (c.loop-i.i + 1) (length c.as_slice-steps.result.now)) (ap (λ (ts : List ChainStep). nat_lt (c.loop-i.i + 1) (length ts)) c.as_slice-steps.ensures)).node
-
-pub lay_step-requires-clause-free : goal.lay_step-requires-clause-free
-lay_step-requires-clause-free c =
-    let by =
-    cut_run c.args.graph.now c.args.self.now c.args.run.now c.args.most c.in-Some.walk c.in_ok-track.track.points.items c.in_ok-track.track.steps.items c.in-Some-2.cuts.items c.as_slice-steps.result.now
-    (sym c.in-Some.is ∙ c.in_ok-walk.ensures) c.in_ok-track.ensures.points c.in_ok-track.ensures.steps c.in_ok-track.ensures.track c.as_slice-steps.ensures (sym (ap (option_map vec_items) c.in-Some-2.is) ∙ c.in_ok-cuts.ensures) in
-    let below : c.loop-i.i < length c.args.run.now.steps = omega (arith, c.loop-i-test.true, ap length c.as_slice-steps.ensures) in
-    (step_here c.args.graph.now c.requires.graph c.args.self.now c.requires.legal c.args.run.now c.requires.run c.requires.free c.args.most c.in-Some.walk c.in_ok-track.track.points.items c.in_ok-track.track.steps.items c.in-Some-2.cuts.items by c.loop-i.i c.index.result.now c.index-in-loop-i.result.now c.index.result.now c.index-in-loop-i.result.now below c.index.ensures c.index-in-loop-i.ensures c.loop-i.at c.loop-i.self (c.loop-i.invariant.left below) no_step no_walk (nat_lt (c.loop-i.i + 1) (length c.as_slice-steps.result.now)) (ap (λ (ts : List ChainStep). nat_lt (c.loop-i.i + 1) (length ts)) c.as_slice-steps.ensures)).free
-
-pub lay_step-requires-clause-legal : goal.lay_step-requires-clause-legal
-lay_step-requires-clause-legal c = (c.loop-i.invariant.left (omega (arith, c.loop-i-test.true, ap length c.as_slice-steps.ensures))).laying.legal
-
-pub lay_step-requires-clause-to : goal.lay_step-requires-clause-to
-lay_step-requires-clause-to c =
-    let by =
-    cut_run c.args.graph.now c.args.self.now c.args.run.now c.args.most c.in-Some.walk c.in_ok-track.track.points.items c.in_ok-track.track.steps.items c.in-Some-2.cuts.items c.as_slice-steps.result.now
-    (sym c.in-Some.is ∙ c.in_ok-walk.ensures) c.in_ok-track.ensures.points c.in_ok-track.ensures.steps c.in_ok-track.ensures.track c.as_slice-steps.ensures (sym (ap (option_map vec_items) c.in-Some-2.is) ∙ c.in_ok-cuts.ensures) in
-    let below : c.loop-i.i < length c.args.run.now.steps = omega (arith, c.loop-i-test.true, ap length c.as_slice-steps.ensures) in
-    stands_here c.args.graph.now c.requires.graph c.args.self.now c.requires.legal c.args.run.now c.requires.run c.requires.free c.args.most c.in-Some.walk c.in_ok-track.track.points.items c.in_ok-track.track.steps.items c.in-Some-2.cuts.items by c.loop-i.i c.index.result.now c.index-in-loop-i.result.now c.index.result.now c.index-in-loop-i.result.now below c.index.ensures c.index-in-loop-i.ensures c.loop-i.at c.loop-i.self (c.loop-i.invariant.left below) no_step no_walk (nat_lt (c.loop-i.i + 1) (length c.as_slice-steps.result.now)) (ap (λ (ts : List ChainStep). nat_lt (c.loop-i.i + 1) (length ts)) c.as_slice-steps.ensures)
-
-pub lay_step-requires-clause-track : goal.lay_step-requires-clause-track
-lay_step-requires-clause-track c = c.in_ok-track.ensures.track
-
-pub lay_step-requires-clause-order : goal.lay_step-requires-clause-order
-lay_step-requires-clause-order c =
-    let by =
-    cut_run c.args.graph.now c.args.self.now c.args.run.now c.args.most c.in-Some.walk c.in_ok-track.track.points.items c.in_ok-track.track.steps.items c.in-Some-2.cuts.items c.as_slice-steps.result.now
-    (sym c.in-Some.is ∙ c.in_ok-walk.ensures) c.in_ok-track.ensures.points c.in_ok-track.ensures.steps c.in_ok-track.ensures.track c.as_slice-steps.ensures (sym (ap (option_map vec_items) c.in-Some-2.is) ∙ c.in_ok-cuts.ensures) in
-    let below : c.loop-i.i < length c.args.run.now.steps = omega (arith, c.loop-i-test.true, ap length c.as_slice-steps.ensures) in
-    run_order c.args.graph.now c.requires.graph c.args.self.now c.requires.legal c.args.run.now c.requires.run c.requires.free c.args.most c.in-Some.walk c.in_ok-track.track.points.items c.in_ok-track.track.steps.items c.in-Some-2.cuts.items by c.loop-i.i c.index.result.now c.index-in-loop-i.result.now c.index.result.now c.index-in-loop-i.result.now below c.index.ensures c.index-in-loop-i.ensures
-
-pub lay_step-requires-clause-within : goal.lay_step-requires-clause-within
-lay_step-requires-clause-within c =
-    let by =
-    cut_run c.args.graph.now c.args.self.now c.args.run.now c.args.most c.in-Some.walk c.in_ok-track.track.points.items c.in_ok-track.track.steps.items c.in-Some-2.cuts.items c.as_slice-steps.result.now
-    (sym c.in-Some.is ∙ c.in_ok-walk.ensures) c.in_ok-track.ensures.points c.in_ok-track.ensures.steps c.in_ok-track.ensures.track c.as_slice-steps.ensures (sym (ap (option_map vec_items) c.in-Some-2.is) ∙ c.in_ok-cuts.ensures) in
-    let below : c.loop-i.i < length c.args.run.now.steps = omega (arith, c.loop-i-test.true, ap length c.as_slice-steps.ensures) in
-    run_within c.args.graph.now c.requires.graph c.args.self.now c.requires.legal c.args.run.now c.requires.run c.requires.free c.args.most c.in-Some.walk c.in_ok-track.track.points.items c.in_ok-track.track.steps.items c.in-Some-2.cuts.items by c.loop-i.i c.index.result.now c.index-in-loop-i.result.now c.index.result.now c.index-in-loop-i.result.now below c.index.ensures c.index-in-loop-i.ensures
-
-pub lay_step-requires-clause-even : goal.lay_step-requires-clause-even
-lay_step-requires-clause-even c =
-    let by =
-    cut_run c.args.graph.now c.args.self.now c.args.run.now c.args.most c.in-Some.walk c.in_ok-track.track.points.items c.in_ok-track.track.steps.items c.in-Some-2.cuts.items c.as_slice-steps.result.now
-    (sym c.in-Some.is ∙ c.in_ok-walk.ensures) c.in_ok-track.ensures.points c.in_ok-track.ensures.steps c.in_ok-track.ensures.track c.as_slice-steps.ensures (sym (ap (option_map vec_items) c.in-Some-2.is) ∙ c.in_ok-cuts.ensures) in
-    let below : c.loop-i.i < length c.args.run.now.steps = omega (arith, c.loop-i-test.true, ap length c.as_slice-steps.ensures) in
-    run_even c.args.graph.now c.requires.graph c.args.self.now c.requires.legal c.args.run.now c.requires.run c.requires.free c.args.most c.in-Some.walk c.in_ok-track.track.points.items c.in_ok-track.track.steps.items c.in-Some-2.cuts.items by c.loop-i.i c.index.result.now c.index-in-loop-i.result.now c.index.result.now c.index-in-loop-i.result.now below c.index.ensures c.index-in-loop-i.ensures
-
-pub lay_step-requires-clause-inside : goal.lay_step-requires-clause-inside
-lay_step-requires-clause-inside c =
-    let by =
-    cut_run c.args.graph.now c.args.self.now c.args.run.now c.args.most c.in-Some.walk c.in_ok-track.track.points.items c.in_ok-track.track.steps.items c.in-Some-2.cuts.items c.as_slice-steps.result.now
-    (sym c.in-Some.is ∙ c.in_ok-walk.ensures) c.in_ok-track.ensures.points c.in_ok-track.ensures.steps c.in_ok-track.ensures.track c.as_slice-steps.ensures (sym (ap (option_map vec_items) c.in-Some-2.is) ∙ c.in_ok-cuts.ensures) in
-    ap (λ (b : Bounds). list_all (contains b) c.in_ok-track.track.points.items) c.loop-i.invariant.bounds ∙ run_inside c.args.graph.now c.requires.graph c.args.self.now c.requires.legal c.args.run.now c.requires.run c.requires.free c.args.most c.in-Some.walk c.in_ok-track.track.points.items c.in_ok-track.track.steps.items c.in-Some-2.cuts.items by
+pub lay_step-requires : goal.lay_step-requires
+lay_step-requires c =
+    let ready = step_ready c.args.graph.now c.requires.graph c.args.self.now c.requires.legal c.args.run.now c.requires.run c.requires.free c.args.most c.in_ok-track.track.points.items c.in_ok-track.track.steps.items c.in-Some-2.cuts.items c.as_slice-steps.result.now c.as_slice-steps.ensures
+    c.loop-i.i c.loop-i.at c.loop-i.self c.loop-i.invariant c.loop-i-test.true c.index.result.now c.index-in-loop-i.result.now c.index.ensures c.index-in-loop-i.ensures no_step (nat_lt (c.loop-i.i + 1) (length c.as_slice-steps.result.now)) refl in
+    record {
+      segment = ready.segment;
+      node = ready.node;
+      legal = ready.legal;
+      free = ready.free;
+      to = ready.to;
+      track = c.in_ok-track.ensures.track;
+      order = ready.order;
+      within = ready.within;
+      inside = ready.inside;
+      even = ready.even;
+    }
 
 pub loop-i-preserved : goal.loop-i-preserved
 loop-i-preserved c =
-    let by =
-    cut_run c.args.graph.now c.args.self.now c.args.run.now c.args.most c.in-Some.walk c.in_ok-track.track.points.items c.in_ok-track.track.steps.items c.in-Some-2.cuts.items c.as_slice-steps.result.now
-    (sym c.in-Some.is ∙ c.in_ok-walk.ensures) c.in_ok-track.ensures.points c.in_ok-track.ensures.steps c.in_ok-track.ensures.track c.as_slice-steps.ensures (sym (ap (option_map vec_items) c.in-Some-2.is) ∙ c.in_ok-cuts.ensures) in
-    let below : c.loop-i.i < length c.args.run.now.steps = omega (arith, c.loop-i-test.true, ap length c.as_slice-steps.ensures) in
-    record {
-      bounds = ap (λ (k : Sketch). k.bounds) c.in_ok-lay_step.ensures ∙ c.loop-i.invariant.bounds;
-      rest = rest_further c.args.graph.now c.requires.graph c.args.self.now c.requires.legal c.args.run.now c.requires.run c.requires.free c.args.most c.in-Some.walk c.in_ok-track.track.points.items c.in_ok-track.track.steps.items c.in-Some-2.cuts.items by c.loop-i.i c.index.result.now c.index-in-loop-i.result.now c.index.result.now c.index-in-loop-i.result.now below c.index.ensures c.index-in-loop-i.ensures c.loop-i.at c.loop-i.self (c.loop-i.invariant.left below) no_step no_walk c.lay_step.new.self c.in_ok-lay_step.ensures ∙ c.loop-i.invariant.rest;
-      left = λ more. further_left c.args.graph.now c.requires.graph c.args.self.now c.requires.legal c.args.run.now c.requires.run c.requires.free c.args.most c.in-Some.walk c.in_ok-track.track.points.items c.in_ok-track.track.steps.items c.in-Some-2.cuts.items by c.loop-i.i c.index.result.now c.index-in-loop-i.result.now c.index.result.now c.index-in-loop-i.result.now below c.index.ensures c.index-in-loop-i.ensures c.loop-i.at c.loop-i.self (c.loop-i.invariant.left below) no_step no_walk c.lay_step.new.self c.in_ok-lay_step.ensures more;
-    }
+    step_laid c.args.graph.now c.requires.graph c.args.self.now c.requires.legal c.args.run.now c.requires.run c.requires.free c.args.most c.in_ok-track.track.points.items c.in_ok-track.track.steps.items c.in-Some-2.cuts.items c.as_slice-steps.result.now c.as_slice-steps.ensures
+    c.loop-i.i c.loop-i.at c.loop-i.self c.loop-i.invariant c.loop-i-test.true c.index.result.now c.index-in-loop-i.result.now c.index.ensures c.index-in-loop-i.ensures no_step c.lay_step.new.self c.in_ok-lay_step.ensures
 
 pub returns : goal.returns
 returns c =
-    let by =
-    cut_run c.args.graph.now c.args.self.now c.args.run.now c.args.most c.in-Some.walk c.in_ok-track.track.points.items c.in_ok-track.track.steps.items c.in-Some-2.cuts.items c.as_slice-steps.result.now
-    (sym c.in-Some.is ∙ c.in_ok-walk.ensures) c.in_ok-track.ensures.points c.in_ok-track.ensures.steps c.in_ok-track.ensures.track c.as_slice-steps.ensures (sym (ap (option_map vec_items) c.in-Some-2.is) ∙ c.in_ok-cuts.ensures) in
-    run_ends c.args.graph.now c.requires.graph c.args.self.now c.requires.legal c.args.run.now c.requires.run c.requires.free c.args.most c.in-Some.walk c.in_ok-track.track.points.items c.in_ok-track.track.steps.items c.in-Some-2.cuts.items by c.loop-i.i c.loop-i.at c.loop-i.self (omega (arith, c.loop-i-test.false, ap length c.as_slice-steps.ensures)) c.loop-i.invariant.rest
+    way_ends c.args.graph.now c.requires.graph c.args.self.now c.requires.legal c.args.run.now c.requires.run c.requires.free c.args.most c.in_ok-track.track.points.items c.in_ok-track.track.steps.items c.in-Some-2.cuts.items c.as_slice-steps.result.now c.as_slice-steps.ensures
+    c.loop-i.i c.loop-i.at c.loop-i.self c.loop-i.invariant c.loop-i-test.false

@@ -22,11 +22,10 @@ next : (graph : GraphParts) (k : Sketch) (ts : List ChainStep) (i : ℕ) → 1 �
     → IsLiftable graph k (get_or ts (i - 1) none).to × AreLiftable graph (lifted k (get_or ts (i - 1) none).to) (inner_nodes (drop (i + 1 - 1) ts))
 next graph k ts i some h can = subst (AreLiftable graph k) (left ts i some h) can
 
-pub lift-requires-clause-legal : goal.lift-requires-clause-legal
-lift-requires-clause-legal c = (next c.args.graph.now c.loop-i.self c.args.steps.now c.loop-i.i c.loop-i.auto.i c.loop-i-test.true c.loop-i.invariant.can).0.legal
-
-pub lift-requires-clause-stands : goal.lift-requires-clause-stands
-lift-requires-clause-stands c = (next c.args.graph.now c.loop-i.self c.args.steps.now c.loop-i.i c.loop-i.auto.i c.loop-i-test.true c.loop-i.invariant.can).0.stands
+pub lift-requires : goal.lift-requires
+lift-requires c =
+    let can = (next c.args.graph.now c.loop-i.self c.args.steps.now c.loop-i.i c.loop-i.auto.i c.loop-i-test.true c.loop-i.invariant.can).0 in
+    record { legal = can.legal; stands = can.stands }
 
 pub loop-i-preserved : goal.loop-i-preserved
 loop-i-preserved c =

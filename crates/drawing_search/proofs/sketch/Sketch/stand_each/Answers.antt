@@ -12,20 +12,10 @@ nobody = (record { 0 = 0 }, record { x = pos 0; y = pos 0 })
 next : (k : Sketch) (ms : List (NodeId × GridPoint)) (i : ℕ) → i < length ms → CanStandEach k (drop i ms) → CanStand k (get_or ms i nobody).0 (get_or ms i nobody).1 × CanStandEach (stood_at k (get_or ms i nobody)) (drop (i + 1) ms)
 next k ms i h can = subst (CanStandEach k) (drop_more ms i nobody h) can
 
-pub stand-requires-clause-node : goal.stand-requires-clause-node
-stand-requires-clause-node c = (next c.loop-at.self c.args.known.now c.loop-at.at-index c.loop-at-test.true c.loop-at.invariant.can).0.node
-
-pub stand-requires-clause-flag : goal.stand-requires-clause-flag
-stand-requires-clause-flag c = (next c.loop-at.self c.args.known.now c.loop-at.at-index c.loop-at-test.true c.loop-at.invariant.can).0.flag
-
-pub stand-requires-clause-lifted : goal.stand-requires-clause-lifted
-stand-requires-clause-lifted c = (next c.loop-at.self c.args.known.now c.loop-at.at-index c.loop-at-test.true c.loop-at.invariant.can).0.lifted
-
-pub stand-requires-clause-inside : goal.stand-requires-clause-inside
-stand-requires-clause-inside c = (next c.loop-at.self c.args.known.now c.loop-at.at-index c.loop-at-test.true c.loop-at.invariant.can).0.inside
-
-pub stand-requires-clause-even : goal.stand-requires-clause-even
-stand-requires-clause-even c = (next c.loop-at.self c.args.known.now c.loop-at.at-index c.loop-at-test.true c.loop-at.invariant.can).0.even
+pub stand-requires : goal.stand-requires
+stand-requires c =
+    let can = (next c.loop-at.self c.args.known.now c.loop-at.at-index c.loop-at-test.true c.loop-at.invariant.can).0 in
+    record { node = can.node; flag = can.flag; lifted = can.lifted; inside = can.inside; even = can.even }
 
 pub loop-at-preserved : goal.loop-at-preserved
 loop-at-preserved c =

@@ -33,7 +33,7 @@ invariant_of-self c =
     ∙ ap (λ (ws : List (Option PlainWalk)). board_of (sketch_of s.board s.points.items s.stand.items ws)) (sym c.in_err-walk.ensures.rest)
 
 pub returns-in_err-walk-clause-walk : goal.returns-in_err-walk-clause-walk
-returns-in_err-walk-clause-walk c = c.in_err-walk.ensures.walk ∙ ap (λ (j : Sketch). walk_in j c.args.s) c.self.view_is
+returns-in_err-walk-clause-walk c = c.from_residual.ensures ∙ c.in_err-walk.ensures.walk ∙ ap (λ (j : Sketch). walk_in j c.args.s) c.self.view_is
 
 pub returns-in_err-walk-clause-rest : goal.returns-in_err-walk-clause-rest
 returns-in_err-walk-clause-rest c =

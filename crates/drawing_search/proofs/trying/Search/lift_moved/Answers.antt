@@ -17,11 +17,10 @@ nodes_in ms = map (λ (m : NodeId × GridPoint). m.0) ms
 next : (graph : GraphParts) (k : Sketch) (ms : List (NodeId × GridPoint)) (i : ℕ) → i < length ms → AreLiftable graph k (nodes_in (drop i ms)) → IsLiftable graph k (get_or ms i nobody).0 × AreLiftable graph (lifted k (get_or ms i nobody).0) (nodes_in (drop (i + 1) ms))
 next graph k ms i h can = subst (λ (xs : List (NodeId × GridPoint)). AreLiftable graph k (nodes_in xs)) (drop_more ms i nobody h) can
 
-pub lift-requires-clause-legal : goal.lift-requires-clause-legal
-lift-requires-clause-legal c = (next c.args.field.graph.now c.loop-known.self.sketch c.args.moved.now c.loop-known.known-index c.loop-known-test.true c.loop-known.invariant.can).0.legal
-
-pub lift-requires-clause-stands : goal.lift-requires-clause-stands
-lift-requires-clause-stands c = (next c.args.field.graph.now c.loop-known.self.sketch c.args.moved.now c.loop-known.known-index c.loop-known-test.true c.loop-known.invariant.can).0.stands
+pub lift-requires : goal.lift-requires
+lift-requires c =
+    let can = (next c.args.field.graph.now c.loop-known.self.sketch c.args.moved.now c.loop-known.known-index c.loop-known-test.true c.loop-known.invariant.can).0 in
+    record { legal = can.legal; stands = can.stands }
 
 pub loop-known-preserved : goal.loop-known-preserved
 loop-known-preserved c =

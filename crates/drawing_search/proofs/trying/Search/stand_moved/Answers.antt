@@ -18,25 +18,10 @@ next k v ms i p h e can =
     subst (λ (q : GridPoint). CanStand k (get_or ms i nobody).0 q × CanStandEach (stood k (get_or ms i nobody).0 q) (all_moved v (drop (i + 1) ms))) (sym e)
     (subst (λ (xs : List (NodeId × GridPoint)). CanStandEach k (all_moved v xs)) (drop_more ms i nobody h) can)
 
-pub stand-requires-clause-node : goal.stand-requires-clause-node
-stand-requires-clause-node c =
-    (next c.loop-known.self.sketch c.args.vector c.args.moved.now c.loop-known.known-index c.after.result c.loop-known-test.true c.after.ensures c.loop-known.invariant.can).0.node
-
-pub stand-requires-clause-flag : goal.stand-requires-clause-flag
-stand-requires-clause-flag c =
-    (next c.loop-known.self.sketch c.args.vector c.args.moved.now c.loop-known.known-index c.after.result c.loop-known-test.true c.after.ensures c.loop-known.invariant.can).0.flag
-
-pub stand-requires-clause-lifted : goal.stand-requires-clause-lifted
-stand-requires-clause-lifted c =
-    (next c.loop-known.self.sketch c.args.vector c.args.moved.now c.loop-known.known-index c.after.result c.loop-known-test.true c.after.ensures c.loop-known.invariant.can).0.lifted
-
-pub stand-requires-clause-inside : goal.stand-requires-clause-inside
-stand-requires-clause-inside c =
-    (next c.loop-known.self.sketch c.args.vector c.args.moved.now c.loop-known.known-index c.after.result c.loop-known-test.true c.after.ensures c.loop-known.invariant.can).0.inside
-
-pub stand-requires-clause-even : goal.stand-requires-clause-even
-stand-requires-clause-even c =
-    (next c.loop-known.self.sketch c.args.vector c.args.moved.now c.loop-known.known-index c.after.result c.loop-known-test.true c.after.ensures c.loop-known.invariant.can).0.even
+pub stand-requires : goal.stand-requires
+stand-requires c =
+    let can = (next c.loop-known.self.sketch c.args.vector c.args.moved.now c.loop-known.known-index c.after.result c.loop-known-test.true c.after.ensures c.loop-known.invariant.can).0 in
+    record { node = can.node; flag = can.flag; lifted = can.lifted; inside = can.inside; even = can.even }
 
 pub loop-known-preserved : goal.loop-known-preserved
 loop-known-preserved c =

@@ -60,7 +60,7 @@ loop-i-preserved c =
     let below : i < cond (eqb g.lengths 0) 1 (8 * g.lengths) = omega (arith, c.loop-i-test.true, c.vectors_of-i-end.ensures) in
     let is = attempt_at g i (attempt_by g v) v below c.vector_of-vector.ensures.dir c.vector_of-vector.ensures.count in
     one_more (scale_of f.by) f.graph.now f.first.now g c.args.most (record { sketch = c.args.self.now.sketch; made = c.args.self.now.made }) i s.sketch s.weight s.made c.loop-i.lifted t v (subst (λ n. i < n) (sym (attempts_many g)) below) is
-    new.sketch new.weight new.made c.in_ok-try_vector.field-0 (c.in_ok-try_vector.ensures t.whole (record { settled = t.settled; lifted = t.lifted; few = t.few }))
+    new.sketch new.weight new.made c.in_ok-lifted-2.lifted (c.in_ok-lifted-2.ensures t.whole (record { settled = t.settled; lifted = t.lifted; few = t.few }))
 
 pub put_back-requires : goal.put_back-requires
 put_back-requires c = c.loop-i.invariant.lifted.can c.loop-i.self.sketch (alike_self c.loop-i.self.sketch)

@@ -3,6 +3,7 @@ use Rattle.std.specs.Prelude.{All}
 use Rattle.octi_grid.proofs.Members.{in_flat_map}
 use Rattle.segment_router.proofs.Places.{all_in, in_at}
 use Rattle.run_laying.specs.Attempts.{Attempt}
+use Rattle.run_laying.specs.Runs.{IsFitting}
 use Rattle.drawing_weights.specs.Scales.{scale_of}
 use Rattle.drawing_search.specs.declared.group.Group.{Group}
 use Rattle.drawing_search.specs.Changes.{AreApart}
@@ -22,7 +23,7 @@ pub loop-group-init : goal.loop-group-init
 loop-group-init c = record { settled = c.requires.settled; rest = refl; few = c.requires.most }
 
 pub try_group-requires-clause-fitting : goal.try_group-requires-clause-fitting
-try_group-requires-clause-fitting c = of_group _ c.args.groups.now c.loop-group.group-index c.group-item.result c.loop-group-test.true c.group-item.is c.requires.fitting
+try_group-requires-clause-fitting c = of_group (IsFitting c.args.field.graph.now) c.args.groups.now c.loop-group.group-index c.group-item.result c.loop-group-test.true c.group-item.is c.requires.fitting
 
 pub try_group-requires-clause-apart : goal.try_group-requires-clause-apart
 try_group-requires-clause-apart c = subst (λ (g : Group). AreApart g.nodes) (sym c.group-item.is) (c.requires.apart c.loop-group.group-index c.group-item.result c.loop-group-test.true)

@@ -18,7 +18,7 @@ returns-in-None c =
     let s = c.args.self.now in
     let room : s.made < c.args.most = omega (arith, c.requires.most, c.if-self-most.false) in
     λ whole taken.
-    tried_none (scale_of f.by) f.graph.now f.first.now c.args.group.now c.args.most c.args.vector whole s.sketch s.weight s.made c.args.lifted taken room c.attempt.new.self.sketch
+    tried_none (scale_of f.by) f.graph.now f.first.now c.args.group.now c.args.most c.args.vector whole s.sketch s.weight s.made c.args.lifted taken room c.attempt.new.self.sketch c.attempt.new.self.weight c.attempt.new.self.made c.in_ok-attempt.ensures.weight c.in_ok-attempt.ensures.made
     (subst (λ (o : Option ℕ). CameOf (scale_of f.by) f.graph.now f.first.now c.args.group.now c.args.vector whole s.sketch c.attempt.new.self.sketch o) c.in-None.is
     (c.in_ok-attempt.ensures.attempted whole taken.settled c.requires.off.fitting taken.lifted))
 
@@ -31,7 +31,7 @@ returns-in-Some c =
     let less = c.in-Some.weight in
     IfOk-weaker c.lift.result (λ (next : Lifted). IsLifted (scale_of f.by) f.graph.now f.first.now c.args.group.now new c.lift.new.sketch next) _
     (λ next lifted whole taken.
-    tried_some (scale_of f.by) f.graph.now f.first.now c.args.group.now c.args.most c.args.vector whole s.sketch s.weight s.made c.args.lifted taken room new less
+    tried_some (scale_of f.by) f.graph.now f.first.now c.args.group.now c.args.most c.args.vector whole s.sketch s.weight s.made c.args.lifted taken room new less c.attempt.new.self.made c.in_ok-attempt.ensures.made
     (subst (λ (o : Option ℕ). CameOf (scale_of f.by) f.graph.now f.first.now c.args.group.now c.args.vector whole s.sketch new o) c.in-Some.is (c.in_ok-attempt.ensures.attempted whole taken.settled c.requires.off.fitting taken.lifted))
     c.lift.new.sketch next lifted)
     c.lift.ensures
