@@ -1,7 +1,6 @@
 -- A whole drawing on its board, as it is made: node after node, and then walk after walk.
-use Rattle.std.proofs.Common.{◌≡◌, refl, sym, ◌∙◌, ap, ap₂, ℕ, zero, suc, ◌+◌, ◌-◌, ◌<◌, ◌≤◌, Bool, true, false, List, [], ◌∷◌, ◌++◌, length, map, get_or, replicate, set, Option, Some, None, append-nil, arith, length-append}
+use Rattle.std.proofs.Common.{◌≡◌, refl, sym, ◌∙◌, ap, ap₂, ℕ, zero, suc, ◌+◌, ◌-◌, ◌<◌, Bool, true, false, List, [], ◌∷◌, ◌++◌, length, map, get_or, replicate, set, Option, Some, None, append-nil, arith, length-append}
 use Rattle.std.proofs.lemmas.List.{length-map, length-replicate, map-append, set-get_or}
-use Rattle.map_base.specs.declared.ids.NodeId.{NodeId}
 use Rattle.octi_grid.specs.declared.point.GridPoint.{GridPoint}
 use Rattle.octi_grid.specs.Walks.{PlainWalk}
 use Rattle.grid_board.specs.declared.bounds.Bounds.{Bounds}

@@ -9,7 +9,6 @@ use Rattle.graph_core.specs.declared.parts.GraphParts.{GraphParts}
 use Rattle.line_chains.specs.declared.chain.Chain.{Chain}
 use Rattle.line_chains.specs.Chains.{end_of}
 use Rattle.octi_grid.specs.declared.dir.Dir.{Dir}
-use Rattle.octi_grid.specs.declared.dir.Dir.TheVariants as dir
 use Rattle.octi_grid.specs.Ways.{number_of, reverse_of}
 use Rattle.walk_search.specs.Routes.{directions}
 use Rattle.drawing_weights.specs.Scales.{Scale}

@@ -35,8 +35,10 @@ module _ (try : List PlainWalk → Attempt → Option (List PlainWalk)) (attempt
   pass_some zero f result room enough more = absurd (omega (arith, room, enough.0))
   pass_some (suc p) f result room enough more = (
     p,
-    (omega (arith, enough.0, more),
-    ap (λ b. cond b f (after_passes try attempts at_once most p (after_pass try attempts (min most (f.made + at_once)) f)))
-        (sym (ne_eqb (after_pass try attempts (min most (f.made + at_once)) f).made f.made (λ e. absurd (omega (arith, e, more)))))
-        ∙ enough.1),
+    (
+      omega (arith, enough.0, more),
+      ap (λ b. cond b f (after_passes try attempts at_once most p (after_pass try attempts (min most (f.made + at_once)) f)))
+          (sym (ne_eqb (after_pass try attempts (min most (f.made + at_once)) f).made f.made (λ e. absurd (omega (arith, e, more)))))
+          ∙ enough.1,
+    ),
   )

@@ -1,5 +1,5 @@
 -- What a run adds at least, by the ports that its ends may have.
-use Rattle.std.specs.Prelude.{ℕ, ◌+◌, ◌*◌, ◌-◌, ◌/◌, ◌==◌, ◌||◌, ◌&&◌, nat_lt, max, min, Bool, List, [], length, map, filter, fold, if◌then◌else◌, slice_index_or, ◌-ℤ◌, int_lt, unsigned_abs}
+use Rattle.std.specs.Prelude.{ℕ, ◌+◌, ◌*◌, ◌==◌, ◌||◌, ◌&&◌, nat_lt, max, min, Bool, List, [], length, map, filter, fold, if◌then◌else◌, slice_index_or, ◌-ℤ◌, int_lt, unsigned_abs}
 use Rattle.std.specs.Int.{bit_at}
 use Rattle.std.specs.List.{flat_map}
 use Rattle.map_base.specs.declared.ids.NodeId.{NodeId}
@@ -12,7 +12,6 @@ use Rattle.octi_grid.specs.declared.dir.Dir.{Dir}
 use Rattle.octi_grid.specs.declared.point.GridPoint.{GridPoint}
 use Rattle.octi_grid.specs.Costs.{turn_between}
 use Rattle.octi_grid.specs.Ways.{number_of, reverse_of}
-use Rattle.walk_search.specs.Reaching.{reach_of}
 use Rattle.walk_search.specs.Routes.{directions}
 use Rattle.segment_router.specs.Ports.{allowed_mask}
 use Rattle.segment_router.specs.Routes.{port_at_node}

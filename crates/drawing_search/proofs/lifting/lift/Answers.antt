@@ -1,4 +1,4 @@
-use Rattle.std.proofs.Common.{◌≡◌, refl, ◌≤◌, List, ◌∷◌, ◌++◌, [], length, get_or, ap, subst, ◌∙◌, arith}
+use Rattle.std.proofs.Common.{refl, ◌≤◌, List, ◌∷◌, ◌++◌, [], length, get_or, ap, subst, ◌∙◌, arith}
 use Rattle.map_base.specs.declared.ids.NodeId.{NodeId}
 use Rattle.line_chains.specs.declared.chain.Chain.{Chain}
 use Rattle.octi_grid.specs.declared.point.GridPoint.{GridPoint}

@@ -58,14 +58,14 @@ loop-step-preserved c =
     let once : AreOnce ts = subst AreOnce (sym c.as_slice-steps.ensures) c.requires.takable.run.once in
     let listed : new.walks.items ≡ old.walks.items ++ cons_option (option_map (λ (w : PlainWalk). ((get_or ts i none).seg, w)) c.take_walk.result) [] =
     elim c.match-take_walk.branch [
-      in-Some+in_ok-push w ↦ ap (λ (l : Lifted). l.walks.items) w.lifted-is ∙ w.in_ok-push.ensures.items
+      | in-Some+in_ok-push w ↦ ap (λ (l : Lifted). l.walks.items) w.lifted-is ∙ w.in_ok-push.ensures.items
           ∙ ap (λ (o : Option PlainWalk). old.walks.items ++ cons_option (option_map (λ (v : PlainWalk). ((get_or ts i none).seg, v)) o) []) (sym w.in-Some.is)
       | in_default w ↦ ap (λ (l : Lifted). l.walks.items) w.lifted-is ∙ sym (append-nil old.walks.items)
           ∙ ap (λ (o : Option PlainWalk). old.walks.items ++ cons_option (option_map (λ (v : PlainWalk). ((get_or ts i none).seg, v)) o) []) (sym w.in_default.is)
     ] in
     let kept : (new.inner.items ≡ old.inner.items) × (new.moved.items ≡ old.moved.items) × (new.rest ≡ old.rest) × (new.least.items ≡ old.least.items) =
     elim c.match-take_walk.branch [
-      in-Some+in_ok-push w ↦ (ap (λ (l : Lifted). l.inner.items) w.lifted-is, ap (λ (l : Lifted). l.moved.items) w.lifted-is, ap (λ (l : Lifted). l.rest) w.lifted-is, ap (λ (l : Lifted). l.least.items) w.lifted-is)
+      | in-Some+in_ok-push w ↦ (ap (λ (l : Lifted). l.inner.items) w.lifted-is, ap (λ (l : Lifted). l.moved.items) w.lifted-is, ap (λ (l : Lifted). l.rest) w.lifted-is, ap (λ (l : Lifted). l.least.items) w.lifted-is)
       | in_default w ↦ (ap (λ (l : Lifted). l.inner.items) w.lifted-is, ap (λ (l : Lifted). l.moved.items) w.lifted-is, ap (λ (l : Lifted). l.rest) w.lifted-is, ap (λ (l : Lifted). l.least.items) w.lifted-is)
     ] in
     record {

@@ -1,4 +1,4 @@
-use Rattle.std.proofs.Common.{◌≡◌, ◌∙◌, sym, ap, ap₂, subst, fold, List}
+use Rattle.std.proofs.Common.{◌∙◌, sym, ap, ap₂, subst, fold, List}
 use Rattle.map_base.specs.declared.ids.NodeId.{NodeId}
 use Rattle.octi_grid.specs.declared.point.GridPoint.{GridPoint}
 use Rattle.run_laying.specs.Laying.{Sketch}

@@ -1,4 +1,4 @@
-use Rattle.std.proofs.Common.{◌≡◌, ◌∙◌, sym, ap, subst, ◌+◌, ◌<◌, ◌≤◌, List, min, arith}
+use Rattle.std.proofs.Common.{◌≡◌, ◌∙◌, sym, ap, subst, ◌+◌, List, min, arith}
 use Rattle.octi_grid.specs.declared.point.GridPoint.{GridPoint}
 use Rattle.drawing_weights.specs.Scales.{scale_of}
 use Rattle.drawing_search.specs.Gains.{sketch_weight}

@@ -1,4 +1,4 @@
-use Rattle.std.proofs.Common.{◌≤◌, arith}
+use Rattle.std.proofs.Common.{arith}
 use Rattle.drawing_search.proofs.RunReads.{near_x, near_y}
 use Rattle.drawing_search.proofs.trying.after.Goals as goal
 

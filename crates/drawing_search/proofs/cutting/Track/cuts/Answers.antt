@@ -1,4 +1,4 @@
-use Rattle.std.proofs.Common.{◌<◌, length, ap, arith}
+use Rattle.std.proofs.Common.{length, ap, arith}
 use Rattle.drawing_search.proofs.EvenPlaces.{few_even}
 use Rattle.drawing_search.proofs.cutting.Track.cuts.Goals as goal
 

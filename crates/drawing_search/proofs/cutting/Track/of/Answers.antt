@@ -1,4 +1,4 @@
-use Rattle.std.proofs.Common.{◌≡◌, ◌∙◌, ◌++◌, sym, ap, subst, List}
+use Rattle.std.proofs.Common.{◌∙◌, ◌++◌, sym, ap, subst, List}
 use Rattle.octi_grid.specs.declared.dir.Dir.{Dir}
 use Rattle.octi_grid.specs.declared.point.GridPoint.{GridPoint}
 use Rattle.octi_grid.specs.Walks.{points_of}

@@ -1,7 +1,6 @@
-use Rattle.std.proofs.Common.{◌≡◌, ◌+◌, ◌-◌, ◌≤◌, drop, filter, length}
+use Rattle.std.proofs.Common.{◌≡◌, ◌+◌, ◌-◌, ◌≤◌, drop, length}
 use Rattle.drawing_weights.specs.Scales.{scale_of}
-use Rattle.run_laying.specs.Attempts.{inner_nodes}
-use Rattle.drawing_search.specs.Least.{free_nodes, is_free_node}
+use Rattle.drawing_search.specs.Least.{free_nodes}
 use Rattle.drawing_search.proofs.gains.Field.free_nodes.Given as goal
 
 -- the nodes so far, and those of the steps that are left

@@ -1,4 +1,4 @@
-use Rattle.std.proofs.Common.{◌≡◌, ◌∙◌, sym, ap, ap₂, subst, ◌+◌, ◌*◌, ◌-◌, ◌<◌, true, List, length, get_or, arith}
+use Rattle.std.proofs.Common.{◌≡◌, ◌∙◌, sym, ap, ap₂, subst, ◌+◌, ◌*◌, ◌<◌, true, List, length, arith}
 use Rattle.map_base.specs.declared.ids.NodeId.{NodeId}
 use Rattle.map_base.specs.declared.ids.SegId.{SegId}
 use Rattle.line_chains.specs.declared.chain.ChainStep.{ChainStep}
@@ -8,7 +8,7 @@ use Rattle.run_laying.specs.Attempts.{inner_nodes}
 use Rattle.run_laying.specs.Sketches.{is_standing}
 use Rattle.std.specs.Prelude.{All}
 use Rattle.drawing_search.proofs.FewSteps.{run_few}
-use Rattle.drawing_search.proofs.RunReads.{no_step, reads_end, reads_first, reads_last, run_from, run_on_graph, run_to}
+use Rattle.drawing_search.proofs.RunReads.{reads_end, reads_first, reads_last, run_from, run_on_graph, run_to}
 use Rattle.drawing_search.proofs.gains.Field.run_gain.Goals as goal
 
 pub turns_with-requires-clause-node : goal.turns_with-requires-clause-node

@@ -1,4 +1,4 @@
-use Rattle.std.proofs.Common.{◌≡◌, ◌∙◌, ◌<◌, None, List, Option, length, get_or, sym, ap, arith}
+use Rattle.std.proofs.Common.{◌∙◌, ◌<◌, None, List, Option, length, get_or, sym, ap, arith}
 use Rattle.std.proofs.lemmas.List.{get_or_read}
 use Rattle.octi_grid.specs.Walks.{PlainWalk}
 use Rattle.run_laying.specs.Laying.{Sketch}

@@ -1,4 +1,4 @@
-use Rattle.std.proofs.Common.{◌+◌, ◌≤◌, ap₂, arith}
+use Rattle.std.proofs.Common.{◌+◌, ap₂, arith}
 use Rattle.drawing_search.specs.Least.{straight_way}
 use Rattle.drawing_search.proofs.least.LeastTurns.between.Goals as goal
 

@@ -1,7 +1,6 @@
 use Rattle.std.proofs.Common.{◌≡◌, ap, subst, List}
 use Rattle.std.specs.Prelude.{IfOk}
 use Rattle.octi_grid.specs.Walks.{PlainWalk}
-use Rattle.run_laying.specs.Laying.{Sketch}
 use Rattle.drawing_search.specs.Trying.{walks_of}
 use Rattle.drawing_search.proofs.sketch.Sketch.into_walks.Goals as goal
 

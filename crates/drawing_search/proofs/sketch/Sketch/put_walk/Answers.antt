@@ -1,4 +1,4 @@
-use Rattle.std.proofs.Common.{◌<◌, length, ap, arith}
+use Rattle.std.proofs.Common.{length, ap, arith}
 use Rattle.octi_grid.specs.Walks.{points_of}
 use Rattle.run_laying.specs.Laying.{Sketch}
 use Rattle.drawing_search.proofs.OnSketches.{all_inside_kept, walked_shown, walked_view}

@@ -1,4 +1,4 @@
-use Rattle.std.proofs.Common.{◌∙◌, ap, ap₂, ◌<◌, arith}
+use Rattle.std.proofs.Common.{◌∙◌, ap, ap₂, arith}
 use Rattle.map_base.specs.declared.ids.NodeId.{NodeId}
 use Rattle.octi_grid.specs.declared.point.GridPoint.{GridPoint}
 use Rattle.run_laying.specs.Sketches.{point_of_node}
