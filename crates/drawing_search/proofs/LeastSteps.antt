@@ -38,10 +38,6 @@ walk_small l first last overs small = record {
         (omega (arith, past, length-map-range_with_len (λ j. min (get_or l.by j 0) (overs + l.per_turn * turns_at_least first last j)) 0 9)) in
         omega (arith, is)
 
--- what is small stays so where it is read
-pub over_at : (os : List (Option ℕ)) (i : ℕ) (o : Option ℕ) → i < length os → o ≡ get_or os i o → ((k : ℕ) (d : Option ℕ) → k < length os → IsSmallOver (get_or os k d)) → IsSmallOver o
-over_at os i o h is all = subst IsSmallOver (sym is) (all i o h)
-
 -- bounds before any walk was looked at
 pub never_small : (price free : ℕ) → price ≤ 101 → free ≤ 80000 → IsSmallLeast (least_of (replicate 9 1125899906842624) price free)
 never_small price free few most = record { each = refl; by = λ k. at k (cases_lt k 9); price = few; free = most }
