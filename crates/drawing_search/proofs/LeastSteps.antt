@@ -1,12 +1,12 @@
 -- Bounds of a run as they are made: one walk more, and one way more in each walk.
-use Rattle.std.proofs.Common.{◌≡◌, refl, sym, ◌∙◌, ap, subst, ℕ, ◌+◌, ◌*◌, ◌<◌, ◌≤◌, ◌⊎◌, inl, inr, min, List, length, map, get_or, replicate, Option, arith}
+use Rattle.std.proofs.Common.{◌≡◌, refl, ◌∙◌, ap, ℕ, ◌+◌, ◌*◌, ◌<◌, ◌≤◌, ◌⊎◌, inl, inr, min, List, length, map, get_or, replicate, arith}
 use Rattle.std.proofs.lemmas.Bool.{cases_lt}
 use Rattle.std.proofs.lemmas.List.{get_or-replicate, get_or_past}
 use Rattle.std.proofs.lemmas.List.FromFn.{fill_by_all, get_or-map-range_with_len, length-map-range_with_len}
 use Rattle.std.specs.List.{range_with_len}
 use Rattle.octi_grid.specs.declared.dir.Dir.{Dir}
 use Rattle.drawing_search.specs.declared.least.LeastTurns.{LeastTurns}
-use Rattle.drawing_search.specs.Bounds.{with_walk_by, IsSmallLeast, IsSmallOver}
+use Rattle.drawing_search.specs.Bounds.{with_walk_by, IsSmallLeast}
 use Rattle.drawing_search.specs.Least.{turns_at_least}
 
 abbrev pub least_of : List ℕ → ℕ → ℕ → LeastTurns

@@ -4,14 +4,12 @@ use Rattle.std.specs.List.{cons_option}
 use Rattle.std.specs.Prelude.{OnOk}
 use Rattle.map_base.specs.declared.ids.NodeId.{NodeId}
 use Rattle.map_base.specs.declared.ids.SegId.{SegId}
-use Rattle.graph_core.specs.declared.parts.GraphParts.{GraphParts}
-use Rattle.line_chains.specs.declared.chain.Chain.{Chain}
 use Rattle.line_chains.specs.declared.chain.ChainStep.{ChainStep}
 use Rattle.octi_grid.specs.declared.point.GridPoint.{GridPoint}
 use Rattle.octi_grid.specs.Walks.{PlainWalk}
 use Rattle.run_laying.specs.Attempts.{inner_nodes}
 use Rattle.run_laying.specs.Laying.{Sketch}
-use Rattle.run_laying.specs.Runs.{AreOnce, IsRun}
+use Rattle.run_laying.specs.Runs.{AreOnce}
 use Rattle.run_laying.specs.Sketches.{lifted as lifted_off, walk_in, with_walk_of, IsLegalSketch}
 use Rattle.drawing_search.specs.declared.least.LeastTurns.{LeastTurns}
 use Rattle.drawing_search.specs.declared.lifting.Lifted.{Lifted}

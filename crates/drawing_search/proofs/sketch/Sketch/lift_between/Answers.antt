@@ -1,11 +1,9 @@
-use Rattle.std.proofs.Common.{◌≡◌, ℕ, ◌+◌, ◌-◌, ◌<◌, ◌≤◌, List, ◌∷◌, length, fold, get_or, drop, sym, ap, subst, ◌∙◌, arith}
-use Rattle.graph_core.specs.declared.parts.GraphParts.{GraphParts}
-use Rattle.map_base.specs.declared.ids.NodeId.{NodeId}
+use Rattle.std.proofs.Common.{◌+◌, ◌-◌, ◌≤◌, length, fold, drop, sym, ap, subst, ◌∙◌}
 use Rattle.line_chains.specs.declared.chain.ChainStep.{ChainStep}
 use Rattle.run_laying.specs.Attempts.{inner_nodes}
 use Rattle.run_laying.specs.Laying.{Sketch}
 use Rattle.run_laying.specs.Sketches.{lifted}
-use Rattle.drawing_search.specs.Changes.{AreLiftable, IsLiftable}
+use Rattle.drawing_search.specs.Changes.{AreLiftable}
 use Rattle.drawing_search.proofs.RunEnds.{inner_end, inner_left}
 use Rattle.drawing_search.proofs.Takable.{next_liftable}
 use Rattle.drawing_search.proofs.sketch.Sketch.lift_between.Goals as goal
