@@ -18,3 +18,5 @@ mod map_tests;
 mod page_tests;
 #[cfg(test)]
 mod session_tests;
+#[cfg(test)]
+mod straight_tests;
