@@ -27,12 +27,13 @@ KEYS = {
     "proof": ['"bound"', '"best"'],
     "spread": ['"auto"', "0", "5", "30", "70", "100"],
     "finest": ["4", "8", "16"],
+    "straight": ["0", "1", "2", "5", "1000", "10000"],
     "moves": ["0", "1", "2", "5", "20", "1000", "10000"],
     "budget": ["1", "2", "5", "10", "100", "100000"],
     "cell": ["50", "100", "200", "400", "1000"],
     "near": ["20", "100", "300", "1000", "3000"],
 }
-BAD = {"search": ['"rise"', "1"], "proof": ['"least"', "true"], "spread": ["101", "-1", '"all"'], "finest": ["2", "32", '"4"'], "moves": ["-1", "10001", '"5"', "1.5"]}
+BAD = {"search": ['"rise"', "1"], "proof": ['"least"', "true"], "spread": ["101", "-1", '"all"'], "finest": ["2", "32", '"4"'], "straight": ["-1", "10001", '"5"', "1.5"], "moves": ["-1", "10001", '"5"', "1.5"]}
 
 
 def settings(chance):
@@ -83,9 +84,6 @@ def main():
 
         for command in ["make", "map", "improve"]:
             chosen = settings(chance)
-            # What `map` takes where no file says otherwise, so that both programs take it.
-            if command == "map":
-                chosen.setdefault("moves", "1000")
             lines = [f"{key} = {value}\n" for key, value in chosen.items()]
             for name, further in [("settings.toml", []), ("theirs.toml", [line.replace("=", " = ", 1) + "\n" for line in given.theirs])]:
                 with open(os.path.join(folder, name), "w") as out:
