@@ -83,7 +83,7 @@ def main():
         chance = random.Random(seed)
         write_feed(os.path.join(folder, "feed"), chance)
         with open(os.path.join(folder, "settings.toml"), "w") as out:
-            out.write('search = "dual"\nproof = "bound"\nfinest = 16\nspread = "auto"\nmoves = 1000\nbudget = 1000\n' + chance.choice(["", "near = 300\n", "cell = 400\n"]))
+            out.write('search = "dual"\nproof = "bound"\nfinest = 16\nspread = "auto"\nstraight = 1000\nbudget = 1000\n' + chance.choice(["", "near = 300\n", "cell = 400\n"]))
         made = run(maker, ["make", "feed", "svg", "cert", "--settings", "settings.toml"], folder, ["svg", "cert"])
         statuses["make", made[0]] += 1
         differs = False
