@@ -2,6 +2,7 @@ mod DualOrders
 mod Numbers
 mod NodeKinds
 mod Moves
+mod Straight
 mod Terms
 mod Orders
 mod Pictures

@@ -23,7 +23,7 @@ use Rattle.graph_core.specs.declared.parts.NodeKind.TheVariants.{Station, Juncti
 use Rattle.graph_core.specs.Consistent.{lines_at, IsConsistent, IsJoin}
 use Rattle.octi_grid.specs.Walks.{PlainWalk}
 use Rattle.segment_router.specs.declared.fault.RouteFault.{RouteFault}
-use Rattle.segment_router.specs.Routing.{route_outcome}
+use Rattle.kept_walks.specs.Drawings.{drawing_outcome}
 use Rattle.order_model.specs.declared.problem.ProblemParts.{ProblemParts}
 use Rattle.order_model.specs.Problems.{IsProblem}
 use Rattle.order_model.specs.Costs.{cost_of}
@@ -48,7 +48,8 @@ use Rattle.graph_maps.specs.Subjects.{told_by, Subject}
 use Rattle.exchange_laws.specs.Exchanged.{made_of, AreAlike}
 use Rattle.exchange_laws.proofs.Certificates.{same_count, same_weighty}
 use Rattle.exchange_laws.proofs.NodeKinds.{count_again, same_kind, IsSameKind}
-use Rattle.exchange_laws.proofs.Moves.{same_routes, same_walks, with_kinds}
+use Rattle.exchange_laws.proofs.Moves.{same_walks, with_kinds}
+use Rattle.exchange_laws.proofs.Straight.{same_drawing}
 use Rattle.exchange_laws.proofs.Numbers.{AreBelow, each_listed, few_listed, importance_up_to, length_up_to, names_up_to, same_colour, same_importance, same_name}
 use Rattle.exchange_laws.proofs.Orders.{lifted_orders, orders_below}
 use Rattle.exchange_laws.proofs.Pictures.{at_list, same_picture}
@@ -233,6 +234,6 @@ module _ (g : GraphParts) (names : Names) (importance : List ℕ) (fit : IsConsi
     pub made_again : made_of other method (read_again g names importance) ≡ made_on before choices method g
     made_again =
         ap (λ (o : Result (List PlainWalk) RouteFault). if_solved (solved_map after) (solved_of other method (routed_by new other h o)))
-        (same_routes g kinds other.cell method.spread method.finest
-        ∙ ap (λ (cell : ℕ). route_outcome g cell method.spread method.finest) (sym alike.cell))
-        ∙ routed_same (route_outcome g choices.cell method.spread method.finest)
+        (same_drawing g kinds count other.cell method.spread method.finest method.straight
+        ∙ ap (λ (cell : ℕ). drawing_outcome g cell method.spread method.finest method.straight) (sym alike.cell))
+        ∙ routed_same (drawing_outcome g choices.cell method.spread method.finest method.straight)

@@ -1,17 +1,12 @@
 -- Drawings after moves.
-use Rattle.std.proofs.Common.{◌≡◌, ◌∙◌, ap, subst, ◌≤◌, ◌⊎◌, ℕ, true, None, arith}
-use Rattle.std.specs.Prelude.{nat_le, unsigned_abs, List}
-use Rattle.std.specs.List.{list_all}
-use Rattle.std.proofs.lemmas.Bool.{and_from, and_parts, le-leb, leb-true}
+use Rattle.std.proofs.Common.{◌≡◌, ◌∙◌, ap, subst, ◌⊎◌, ℕ, None}
+use Rattle.std.specs.Prelude.{List}
 use Rattle.map_base.specs.Settings.{Choices}
 use Rattle.kept_trees.specs.declared.plan.SearchPlan.{SearchPlan}
-use Rattle.octi_grid.specs.declared.point.GridPoint.{GridPoint}
-use Rattle.octi_grid.specs.Walks.{points_of, PlainWalk}
-use Rattle.octi_grid.proofs.Members.{all_at, all_from}
+use Rattle.octi_grid.specs.Walks.{PlainWalk}
 use Rattle.octi_grid.specs.declared.drawing.Drawing.{Drawing}
 use Rattle.graph_core.specs.declared.parts.GraphParts.{GraphParts}
 use Rattle.octi_moves.specs.Moves.{next_of}
-use Rattle.grid_board.specs.Points.{are_near, is_near}
 use Rattle.graph_maps.specs.declared.improvement.Improvement.{Improvement}
 use Rattle.graph_maps.specs.Problems.{Drawn}
 use Rattle.graph_maps.specs.Subjects.{Subject}
@@ -22,22 +17,6 @@ use Rattle.graph_maps.specs.Moving.{after_moves, improvement_of, walks_after}
 use Rattle.graph_maps.specs.Solving.{SolvedPart}
 use Rattle.graph_maps.specs.Stages.{map_by, IsDrawing, IsMoved, IsWritten}
 use Rattle.graph_maps.specs.Wholes.{IsWhole}
-
--- what is near is nearer than a greater distance
-near_point : (few most : ℕ) (p : GridPoint) → few ≤ most → is_near few p ≡ true → is_near most p ≡ true
-near_point few most p h e =
-    let parts = and_parts (nat_le (unsigned_abs p.x) few) (nat_le (unsigned_abs p.y) few) e in
-    and_from (nat_le (unsigned_abs p.x) most) (nat_le (unsigned_abs p.y) most)
-    (le-leb (unsigned_abs p.x) most (omega (arith, h, leb-true (unsigned_abs p.x) few parts.0)))
-    (le-leb (unsigned_abs p.y) most (omega (arith, h, leb-true (unsigned_abs p.y) few parts.1)))
-
-pub near_more : (few most : ℕ) (walks : List PlainWalk) → few ≤ most → are_near few walks ≡ true
-    → are_near most walks ≡ true
-near_more few most walks h e =
-    all_from (λ (w : PlainWalk). list_all (is_near most) (points_of w)) walks
-    (λ w m. all_from (is_near most) (points_of w)
-    (λ p k. near_point few most p h (all_at (is_near few) (points_of w) p
-    (all_at (λ (v : PlainWalk). list_all (is_near few) (points_of v)) walks w e m) k)))
 
 -- a drawing that was moved twice is whole where it was before
 pub whole_moved : (plan : SearchPlan) (importance : List ℕ) (choices : Choices) (drawn : Drawn)

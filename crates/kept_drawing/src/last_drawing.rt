@@ -3,13 +3,13 @@
 use crate::kept_graph::KeptGraph;
 use kept_walks::KeptWalks;
 
-/// The line graph that was built last and the drawing that was routed last, if they are kept. What is drawn is the same
+/// The line graph that was built last and the drawing that was made last, if they are kept. What is drawn is the same
 /// whatever is kept.
 #[derive(Drop)]
 pub struct LastDrawing {
     /// The line graph that was built last.
     pub graph: KeptGraph,
-    /// The drawing that was routed last.
+    /// The drawing that was made last.
     pub walks: KeptWalks,
 }
 

@@ -1,3 +1,4 @@
 mod Lists
 mod Walks
 mod Graphs
+mod Straight

@@ -10,4 +10,4 @@ mod ChainRuns
 mod Fitting
 -- groups one after another, and what straightening promises
 mod Pushed
-mod Promised
+pub mod Promised

@@ -188,7 +188,10 @@ module _ (graph : GraphParts) (fit : IsConsistent graph) (corners : List Bool) (
       ts = steps_from graph corners (length graph.ends) n s
 
       g : IsGrown graph corners n (length graph.ends) ts
-      g = grow (length graph.ends) [] n s refl tt tt (λ k i. absurd i) (λ none. absurd (omega (arith, none))) tt below (ends_round graph fit n.0 here s on) (λ q i e. i)
+      g =
+          let whole : 0 + length graph.ends ≡ length graph.ends = omega arith in
+          subst (λ k. IsGrown graph corners n k ts) whole
+          (grow (length graph.ends) [] n s refl tt tt (λ k i. absurd i) (λ none. absurd (omega (arith, none))) tt below (ends_round graph fit n.0 here s on) (λ q i e. i))
 
       some : 0 < length ts
       some = by_count (length graph.ends) refl

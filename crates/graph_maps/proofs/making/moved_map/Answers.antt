@@ -1,6 +1,7 @@
 use Rattle.std.proofs.Common.{arith}
 use Rattle.graph_maps.specs.Subjects.{told_by}
-use Rattle.graph_maps.proofs.MovedDrawings.{near_more, written_by}
+use Rattle.octi_moves.proofs.Nearer.{near_more}
+use Rattle.graph_maps.proofs.MovedDrawings.{written_by}
 use Rattle.graph_maps.proofs.making.moved_map.Goals as goal
 
 pub moved-requires-clause-near : goal.moved-requires-clause-near

@@ -8,7 +8,7 @@ use Rattle.run_laying.specs.Searches.{attempts_alone}
 use Rattle.drawing_search.specs.declared.group.Group.{Group}
 use Rattle.drawing_search.specs.Searched.{attempts_of}
 use Rattle.line_straightening.specs.Groups.{all_nodes, IsSound}
-use Rattle.line_straightening.specs.Straightening.{moves_of, single_runs}
+use Rattle.line_straightening.specs.Straightening.{moves_of, moves_over, single_runs}
 use Rattle.line_straightening.proofs.Pushed.{all_pushed, singles_apart}
 use Rattle.line_straightening.proofs.groups.groups_of.Goals as goal
 
@@ -44,7 +44,8 @@ returns c =
       attempts_are = all_pushed (attempts_of c.new-groups.result.items) (attempts_of c.push_alone.new.groups.items) (attempts_of c.push_corners.new.groups.items) (attempts_of c.push_ends.new.groups.items) (attempts_of c.push_nodes.new.groups.items)
           (attempts_of c.push_ends-2.new.groups.items) (map attempts_alone chains) (flat_map (λ (n : NodeId). moves_of chains (n ∷ [])) (filter (is_corner corners) (nodes_of graph))) (flat_map (λ (x : Chain). moves_of chains (x.from ∷ end_of x ∷ [])) chains)
           (flat_map (λ (n : NodeId). moves_of (single_runs graph) (n ∷ [])) (nodes_of graph)) (flat_map (λ (x : Chain). moves_of (single_runs graph) (x.from ∷ end_of x ∷ [])) (single_runs graph)) (ap attempts_of c.new-groups.ensures.items)
-          c.in_ok-push_alone.ensures.attempts by_corners c.in_ok-push_ends.ensures.attempts by_nodes by_ends;
+          c.in_ok-push_alone.ensures.attempts by_corners c.in_ok-push_ends.ensures.attempts by_nodes by_ends
+          ∙ ap (λ (cs : List Chain). map attempts_alone cs ++ (moves_over cs (filter (is_corner corners) (nodes_of graph)) ++ moves_over (single_runs graph) (nodes_of graph))) c.requires.are;
       fitting = c.requires.fitting;
       sound = c.in_ok-push_ends-2.ensures.sound;
     }

@@ -1,0 +1,23 @@
+-- Routes, straightened.
+use Rattle.std.proofs.Common.{◌≡◌, ◌∙◌, ap, sym, ℕ, List, Ok}
+use Rattle.map_method.specs.declared.spread.Spread.{Spread}
+use Rattle.graph_core.specs.declared.parts.GraphParts.{GraphParts}
+use Rattle.octi_grid.specs.Walks.{PlainWalk}
+use Rattle.segment_router.specs.declared.fault.RouteFault.{RouteFault}
+use Rattle.segment_router.specs.declared.fault.RouteFault.TheVariants as fault
+use Rattle.segment_router.specs.Routing.{route_outcome, HasCause}
+use Rattle.kept_walks.specs.Drawings.{drawing_outcome, straightened_routes, straightened_walks}
+
+-- where there are no routes there is no drawing
+pub cause_stays : (graph : GraphParts) (cell : ℕ) (spread : Spread) (finest straight : ℕ) (stop : RouteFault)
+    → HasCause (route_outcome graph cell spread finest) stop → HasCause (drawing_outcome graph cell spread finest straight) stop
+cause_stays graph cell spread finest straight (fault.NoRoute s) h = ap (straightened_routes graph cell straight) h
+cause_stays graph cell spread finest straight (fault.Limit l) h = ap (straightened_routes graph cell straight) h
+cause_stays graph cell spread finest straight fault.NoMemory h = tt
+
+-- where there are routes, what they come to is the drawing
+pub drawing_there : (graph : GraphParts) (cell : ℕ) (spread : Spread) (finest straight : ℕ) (routes walks : List PlainWalk)
+    → route_outcome graph cell spread finest ≡ Ok routes → walks ≡ straightened_walks graph cell straight routes
+    → drawing_outcome graph cell spread finest straight ≡ Ok walks
+drawing_there graph cell spread finest straight routes walks routed same =
+    ap (straightened_routes graph cell straight) routed ∙ ap (λ (w : List PlainWalk). Ok w) (sym same)
