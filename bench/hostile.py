@@ -269,8 +269,8 @@ def great_grid():
     return feed(stations, lines + [(f"C{column}", [row * side + column for row in range(side)], None) for column in range(side)]), "map feed svg cert"
 
 
-def moves_of_a_mesh():
-    """10,000 moves on a drawing of 400 nodes at random."""
+def mesh():
+    """A network of 400 nodes at random."""
     chance = random.Random(6)
     stations = [(48 + chance.random() * 0.2, 16 + chance.random() * 0.3) for _ in range(400)]
     trips = []
@@ -282,14 +282,26 @@ def moves_of_a_mesh():
             at = chance.choice(near[1:4])
             stops.append(at)
         trips.append((f"L{k}", stops, None))
-    return feed(stations, trips), "improve feed svg cert 10000"
+    return feed(stations, trips)
+
+
+def moves_of_a_mesh():
+    """10,000 moves on its drawing."""
+    return mesh(), "improve feed svg cert 10000"
+
+
+def straight_mesh():
+    """10,000 attempts to straighten it."""
+    files = mesh()
+    files["settings"] = b"straight = 10000\n"
+    return files, "map feed svg cert --settings settings"
 
 
 FAMILIES = {family.__name__: family for family in [
     visits_along_three_points, visits_to_and_fro, visits_on_one_shape, many_long_shapes, combs, star_of_courses, noise_courses,
     lines_on_one_segment, lines_on_a_chain, lines_on_a_star, stations_on_one_point, many_patterns, long_ids, many_columns, quotes,
     bad_row_at_the_end, long_script, kept_edits, many_draws, long_edits, deep_settings, dotted_settings, many_settings, great_grid,
-    moves_of_a_mesh,
+    moves_of_a_mesh, straight_mesh,
 ]}
 for count in (250, 500, 1_000):
     FAMILIES[f"certificate_of_{count}_lines"] = lambda count=count: certificate_of_many_lines(count)

@@ -19,6 +19,10 @@ fn a_bad_key_is_told_with_its_value(rt: HostRuntime) -> Result<(), Fail> {
             "search = \"fast\"\n",
             "octimap: \"my.toml\": search = \"fast\", but search has to be \"live\" or \"dual\"\n",
         ),
+        (
+            "straight = 10001\n",
+            "octimap: \"my.toml\": straight = 10001, but straight has to be a whole number from 0 to 10000\n",
+        ),
     ];
     for (text, line) in cases {
         fs::write(&rt, "my.toml", text)?;
