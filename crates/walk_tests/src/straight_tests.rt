@@ -13,7 +13,7 @@ use std::test::Fail;
 /// cells of 133 it is a corner and stays, and both ends come up to it, by two steps for 4 more each.
 #[test]
 fn a_station_is_a_corner_where_it_lies_off(rt: HostRuntime) -> Result<(), Fail> {
-    for (cell, made, after, height) in [(134, 3, 120, 0), (133, 4, 128, 2)] {
+    for (cell, made, after, height) in [(134u32, 3, 120, 0), (133, 4, 128, 2)] {
         assert!(rt; cell > 0);
         let graph = three_in_a_row(rt.alloc())?;
         let drawing = bent_line(&rt, rt.alloc())?;
