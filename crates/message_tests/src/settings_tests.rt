@@ -43,10 +43,6 @@ fn a_bad_value_of_set_is_told(rt: HostRuntime) -> Result<(), Fail> {
             "octimap: --set \"cell=5\": cell = 5, but cell has to be 0, or a whole number of decimetres from 10 to 1000000\n",
         ),
         (
-            "map --set straight=10001 feed map.svg map.cert",
-            "octimap: --set \"straight=10001\": straight = 10001, but straight has to be a whole number from 0 to 10000\n",
-        ),
-        (
             "graph --set straight=\"x\" feed",
             "octimap: --set \"straight=\"x\"\": straight = \"x\", but straight has to be a whole number from 0 to 10000\n",
         ),

@@ -1,175 +1,137 @@
-//! The command `map` over small networks whose lines are straightened.
+//! Maps whose lines are laid straight, as commands and settings ask for it, over files in memory.
 
 use crate::command_tests::{run_on, words_of};
 use crate::graph_tests::put_file;
 use crate::map_tests::at;
-use files_door::{SteadyFiles, SteadySinks};
+use files_door::{SteadyFiles, SteadySinks, Target};
 use map_base::{NoMemory, Text};
 use std::alloc::Global;
 use std::test::Fail;
 
-const ROUTES: &str = "route_id,route_type\n0,1\n1,1\n";
+/// Five stations of a line that bends.
+const STOPS: &str = "\
+stop_id,stop_name,stop_lat,stop_lon
+P,P,0.002,0.001
+M1,M1,0.001,0.004
+M2,M2,0.001,0.008
+M3,M3,0.007,0.012
+Q,Q,0.010,0.016
+";
 
-const TRIPS: &str = "route_id,trip_id\n0,T0\n1,T1\n";
+/// Its calls.
+const TIMES: &str = "\
+trip_id,stop_id,stop_sequence
+A1,P,1
+A1,M1,2
+A1,M2,3
+A1,M3,4
+A1,Q,5
+";
 
-/// The folder `feed` with these stations and these stops of two lines, and settings.
-fn network(
-    alloc: Global,
-    stops: &str,
-    stop_times: &str,
-    settings: &str,
-) -> Result<Vec<(Text, Vec<u8>)>, NoMemory> {
+/// The walks of its map as they are routed.
+const BENT: &str = "
+walk 0 0 4 E6 SE4
+walk 1 10 0 E14
+walk 2 24 0 N8 NE12
+walk 3 36 20 NE10 E4
+order 0 0
+";
+
+/// Once no attempt makes it lighter.
+const STRAIGHT: &str = "
+walk 0 2 2 E10
+walk 1 12 2 E10
+walk 2 22 2 NE16
+walk 3 38 18 NE10
+order 0 0
+";
+
+/// After five attempts.
+const AFTER_FIVE: &str = "
+walk 0 2 0 E10
+walk 1 12 0 E10
+walk 2 22 0 NE18
+walk 3 40 18 N2 NE10
+order 0 0
+";
+
+/// After five attempts, and a move behind them.
+const AND_A_MOVE: &str = "
+walk 0 2 0 E10
+walk 1 12 0 E10
+walk 2 22 0 NE18
+walk 3 40 18 NE10
+order 0 0
+";
+
+/// The folder `feed` of the line.
+fn bent_line(alloc: Global) -> Result<Vec<(Text, Vec<u8>)>, NoMemory> {
     let mut files = Vec::new(alloc);
-    put_file(alloc, &mut files, "feed/routes.txt", ROUTES)?;
-    put_file(alloc, &mut files, "feed/stops.txt", stops)?;
-    put_file(alloc, &mut files, "feed/trips.txt", TRIPS)?;
-    put_file(alloc, &mut files, "feed/stop_times.txt", stop_times)?;
-    put_file(alloc, &mut files, "my.toml", settings)?;
+    let routes = "route_id,route_type,route_color\nA,1,\n";
+    let trips = "route_id,service_id,trip_id\nA,S,A1\n";
+    put_file(alloc, &mut files, "feed/routes.txt", routes)?;
+    put_file(alloc, &mut files, "feed/stops.txt", STOPS)?;
+    put_file(alloc, &mut files, "feed/trips.txt", trips)?;
+    put_file(alloc, &mut files, "feed/stop_times.txt", TIMES)?;
     Ok(files)
 }
 
-/// A ring: its least node becomes a corner.
-#[test]
-fn a_ring_without_a_corner_has_one(rt: HostRuntime) -> Result<(), Fail> {
-    let alloc = rt.alloc();
-    let stops = "\
-        stop_id,stop_lat,stop_lon\nA,0.0000,0.0000\nB,0.0040,0.0050\nC,0.0110,0.0060\nD,0.0160,0.0010\n\
-        E,0.0120,-0.0050\nF,0.0030,-0.0060\n";
-    let stop_times = "\
-        trip_id,stop_id,stop_sequence\nT0,A,0\nT0,B,1\nT0,C,2\nT0,D,3\nT0,E,4\nT0,F,5\nT0,A,6\n";
-    let files = network(alloc, stops, stop_times, "")?;
+/// The status of a command over the line, what it says, and the certificate that it writes.
+fn ended(alloc: Global, line: &str) -> Result<(u8, Vec<u8>, Vec<u8>), Fail> {
+    let words = words_of(alloc, line)?;
+    let mut files = SteadyFiles::with(bent_line(alloc)?);
     let mut sinks = SteadySinks::none(alloc);
-    let words = words_of(alloc, "map --settings my.toml feed map.svg map.cert")?;
-    assert_eq!(rt;
-        run_on(alloc, &words, &mut SteadyFiles::with(files), &mut sinks),
-        0
-    );
+    let status = run_on(alloc, &words, &mut files, &mut sinks);
+    let said = sinks.written(&Target::Said).unwrap_or(b"");
     let certificate = sinks.written(&at(alloc, "map.cert")?).unwrap_or(b"");
-    let due = "\
-        octimap 1\ngraph 6 6 1\nwalk 0 20 -2 NE14\nwalk 1 20 -2 NW14\nwalk 2 34 12 N22\nwalk 3 34 34 NW16\n\
-        walk 4 18 50 SW12\nwalk 5 6 38 S26\n";
-    assert!(rt; certificate.starts_with(due.as_bytes()));
+    Ok((status, said.to_vec(alloc)?, certificate.to_vec(alloc)?))
+}
+
+/// `map` lays lines straight by itself and makes no moves, the other commands do what the settings say. Moves come behind
+/// the attempts, and `improve` starts from what both made.
+#[test]
+fn lines_are_laid_straight_before_nodes_move(rt: HostRuntime) -> Result<(), Fail> {
+    let alloc = rt.alloc();
+    for (line, said, walks) in [
+        ("map feed map.svg map.cert", "", STRAIGHT),
+        ("map --set straight=0 feed map.svg map.cert", "", BENT),
+        ("map --set straight=5 feed map.svg map.cert", "", AFTER_FIVE),
+        ("make feed map.svg map.cert", "", BENT),
+        (
+            "make --set straight=10000 feed map.svg map.cert",
+            "",
+            STRAIGHT,
+        ),
+        (
+            "make --set straight=5 --set moves=10 feed map.svg map.cert",
+            "",
+            AND_A_MOVE,
+        ),
+        (
+            "improve --set straight=5 feed map.svg map.cert 10",
+            "improved 237 232 1\n",
+            AND_A_MOVE,
+        ),
+    ] {
+        let (status, answer, certificate) = ended(alloc, line)?;
+        assert_eq!(rt; status, 0, "{line}");
+        assert_eq!(rt; answer.as_slice(), said.as_bytes());
+        assert!(rt;
+            str::from_utf8(certificate.as_slice())?.contains(walks),
+            "{line}"
+        );
+    }
     Ok(())
 }
 
-/// A ring over one corner, and a way from there.
 #[test]
-fn a_ring_over_one_corner_bends_there(rt: HostRuntime) -> Result<(), Fail> {
+fn a_bad_number_of_attempts_is_refused(rt: HostRuntime) -> Result<(), Fail> {
     let alloc = rt.alloc();
-    let stops = "\
-        stop_id,stop_lat,stop_lon\nA,0.0000,0.0000\nB,0.0050,0.0060\nC,0.0120,0.0050\nD,0.0130,-0.0040\n\
-        E,0.0060,-0.0070\nF,0.0010,-0.0120\nG,-0.0020,-0.0200\n";
-    let stop_times = "\
-        trip_id,stop_id,stop_sequence\nT0,A,0\nT0,B,1\nT0,C,2\nT0,D,3\nT0,E,4\nT0,A,5\nT1,A,0\nT1,F,1\n\
-        T1,G,2\n";
-    let files = network(alloc, stops, stop_times, "")?;
-    let mut sinks = SteadySinks::none(alloc);
-    let words = words_of(alloc, "map --settings my.toml feed map.svg map.cert")?;
-    assert_eq!(rt;
-        run_on(alloc, &words, &mut SteadyFiles::with(files), &mut sinks),
-        0
-    );
-    let certificate = sinks.written(&at(alloc, "map.cert")?).unwrap_or(b"");
-    let due = "\
-        octimap 1\ngraph 8 8 2\nwalk 0 42 8 NE6\nwalk 1 42 8 W6\nwalk 2 48 14 N10 NW2\nwalk 3 46 26 W12\n\
-        walk 4 34 26 SW8\nwalk 5 26 18 SE10\nwalk 6 16 6 NE2 E18\nwalk 7 16 6 SW6 W8\n";
-    assert!(rt; certificate.starts_with(due.as_bytes()));
-    Ok(())
-}
-
-/// Two chains between the same two corners.
-#[test]
-fn two_chains_join_the_same_corners(rt: HostRuntime) -> Result<(), Fail> {
-    let alloc = rt.alloc();
-    let stops = "\
-        stop_id,stop_lat,stop_lon\nA,0.0000,0.0000\nB,0.0060,0.0050\nC,0.0070,0.0110\nD,0.0000,0.0170\n\
-        E,-0.0050,0.0120\nF,-0.0060,0.0040\nG,0.0010,-0.0070\nH,0.0020,0.0250\n";
-    let stop_times = "\
-        trip_id,stop_id,stop_sequence\nT0,G,0\nT0,A,1\nT0,B,2\nT0,C,3\nT0,D,4\nT0,H,5\nT1,D,0\nT1,E,1\n\
-        T1,F,2\nT1,A,3\n";
-    let files = network(alloc, stops, stop_times, "")?;
-    let mut sinks = SteadySinks::none(alloc);
-    let words = words_of(alloc, "map --settings my.toml feed map.svg map.cert")?;
-    assert_eq!(rt;
-        run_on(alloc, &words, &mut SteadyFiles::with(files), &mut sinks),
-        0
-    );
-    let certificate = sinks.written(&at(alloc, "map.cert")?).unwrap_or(b"");
-    let due = "\
-        octimap 1\ngraph 8 8 2\nwalk 0 10 10 NE8\nwalk 1 10 10 SE8\nwalk 2 10 10 W8\nwalk 3 18 18 NE2 E8\n\
-        walk 4 28 20 SE10\nwalk 5 38 10 E10\nwalk 6 38 10 SW8\nwalk 7 30 2 W12\n";
-    assert!(rt; certificate.starts_with(due.as_bytes()));
-    Ok(())
-}
-
-/// Two lines that end at one station: no line goes on over it, and it is no corner.
-#[test]
-fn a_station_where_two_lines_end_is_a_bead(rt: HostRuntime) -> Result<(), Fail> {
-    let alloc = rt.alloc();
-    let stops = "\
-        stop_id,stop_lat,stop_lon\nA,0.0000,0.0000\nB,0.0020,0.0060\nC,-0.0010,0.0120\nD,0.0010,0.0180\n\
-        E,0.0030,0.0240\nF,0.0000,0.0300\n";
-    let stop_times = "\
-        trip_id,stop_id,stop_sequence\nT0,A,0\nT0,B,1\nT0,C,2\nT1,C,0\nT1,D,1\nT1,E,2\nT1,F,3\n";
-    let files = network(alloc, stops, stop_times, "")?;
-    let mut sinks = SteadySinks::none(alloc);
-    let words = words_of(alloc, "map --settings my.toml feed map.svg map.cert")?;
-    assert_eq!(rt;
-        run_on(alloc, &words, &mut SteadyFiles::with(files), &mut sinks),
-        0
-    );
-    let certificate = sinks.written(&at(alloc, "map.cert")?).unwrap_or(b"");
-    let due = "\
-        octimap 1\ngraph 6 5 2\nwalk 0 2 4 E8\nwalk 1 10 4 E10\nwalk 2 20 4 E10\nwalk 3 30 4 E10\n\
-        walk 4 40 4 E8\n";
-    assert!(rt; certificate.starts_with(due.as_bytes()));
-    Ok(())
-}
-
-/// A chain of more stations than there are grid points between its ends.
-#[test]
-fn a_chain_that_is_too_short_for_its_stations_waits(rt: HostRuntime) -> Result<(), Fail> {
-    let alloc = rt.alloc();
-    let stops = "\
-        stop_id,stop_lat,stop_lon\nA,0.0000,0.0000\nB,0.0010,0.0020\nC,0.0000,0.0040\nD,0.0010,0.0060\n\
-        E,0.0000,0.0080\nF,0.0200,0.0080\n";
-    let stop_times = "\
-        trip_id,stop_id,stop_sequence\nT0,A,0\nT0,B,1\nT0,C,2\nT0,D,3\nT0,E,4\nT0,F,5\n";
-    let files = network(alloc, stops, stop_times, "cell = 8000\n")?;
-    let mut sinks = SteadySinks::none(alloc);
-    let words = words_of(alloc, "map --settings my.toml feed map.svg map.cert")?;
-    assert_eq!(rt;
-        run_on(alloc, &words, &mut SteadyFiles::with(files), &mut sinks),
-        0
-    );
-    let certificate = sinks.written(&at(alloc, "map.cert")?).unwrap_or(b"");
-    let due = "\
-        octimap 1\ngraph 6 5 1\nwalk 0 2 -4 N2\nwalk 1 2 -2 N2\nwalk 2 2 0 N2\nwalk 3 2 2 N2\n\
-        walk 4 2 4 N2\n";
-    assert!(rt; certificate.starts_with(due.as_bytes()));
-    Ok(())
-}
-
-/// At most one attempt is made.
-#[test]
-fn straightening_ends_within_a_pass(rt: HostRuntime) -> Result<(), Fail> {
-    let alloc = rt.alloc();
-    let stops = "\
-        stop_id,stop_lat,stop_lon\nA,0.0000,0.0000\nB,0.0030,0.0050\nC,-0.0020,0.0100\nD,0.0040,0.0150\n\
-        E,-0.0010,0.0200\nF,0.0030,0.0250\n";
-    let stop_times = "\
-        trip_id,stop_id,stop_sequence\nT0,A,0\nT0,B,1\nT0,C,2\nT0,D,3\nT0,E,4\nT0,F,5\n";
-    let files = network(alloc, stops, stop_times, "straight = 1\n")?;
-    let mut sinks = SteadySinks::none(alloc);
-    let words = words_of(alloc, "map --settings my.toml feed map.svg map.cert")?;
-    assert_eq!(rt;
-        run_on(alloc, &words, &mut SteadyFiles::with(files), &mut sinks),
-        0
-    );
-    let certificate = sinks.written(&at(alloc, "map.cert")?).unwrap_or(b"");
-    let due = "\
-        octimap 1\ngraph 6 5 1\nwalk 0 2 6 NE4 E4\nwalk 1 10 10 SE10\nwalk 2 20 0 N2 NE10\n\
-        walk 3 30 12 SE10\nwalk 4 40 2 NE8 E2\n";
-    assert!(rt; certificate.starts_with(due.as_bytes()));
+    for value in ["10001", "-1", "\"x\"", "1.5"] {
+        let line = format!(in alloc; "map --set straight={value} feed map.svg map.cert")?;
+        let (status, said, _) = ended(alloc, line.as_str())?;
+        assert_eq!(rt; status, 10, "{value}");
+        assert_eq!(rt; said.as_slice(), b"bad settings: straight\n".as_slice());
+    }
     Ok(())
 }

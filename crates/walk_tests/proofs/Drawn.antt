@@ -1,5 +1,5 @@
 -- The points of the bent line lie near the origin.
-use Rattle.std.proofs.Common.{◌≡◌, true, pos, List, [], ◌∷◌, Some, refl, subst}
+use Rattle.std.proofs.Common.{◌≡◌, ℕ, true, pos, List, [], ◌∷◌, Some, subst}
 use Rattle.octi_grid.specs.declared.dir.Dir.TheVariants as dir
 use Rattle.octi_grid.specs.declared.point.GridPoint.{GridPoint}
 use Rattle.octi_grid.specs.declared.walk.Run.{Run}
@@ -21,7 +21,7 @@ down = record { dir = dir.E; count = 14 } ∷ record { dir = dir.SE; count = 2 }
 told : {X : Type 0} (x y : X) → Some x ≡ Some y → x ≡ y
 told x y e = cc
 
-pub bent_near : (v w : PlainWalk) → walk_by origin up ≡ Some v → walk_by middle down ≡ Some w → are_near 1900 (v ∷ w ∷ []) ≡ true
-bent_near v w e f =
-    subst (λ (p : PlainWalk). are_near 1900 (p ∷ w ∷ []) ≡ true) (told (walk_of origin up) v e)
-    (subst (λ (p : PlainWalk). are_near 1900 (walk_of origin up ∷ p ∷ []) ≡ true) (told (walk_of middle down) w f) refl)
+pub bent_near : (far : ℕ) → are_near far (walk_of origin up ∷ walk_of middle down ∷ []) ≡ true → (v w : PlainWalk) → walk_by origin up ≡ Some v → walk_by middle down ≡ Some w → are_near far (v ∷ w ∷ []) ≡ true
+bent_near far near v w e f =
+    subst (λ (p : PlainWalk). are_near far (p ∷ w ∷ []) ≡ true) (told (walk_of origin up) v e)
+    (subst (λ (p : PlainWalk). are_near far (walk_of origin up ∷ p ∷ []) ≡ true) (told (walk_of middle down) w f) near)

@@ -24,6 +24,7 @@ fn walk(rt: &impl Abort, start: GridPoint, runs: Vec<Run>) -> Walk
 pub(crate) fn bent_line(rt: &impl Abort, alloc: Global) -> Result<Drawing, Fail>
     ensures each { IfOk result (λ drawing. length drawing.walks ≡ 2) }
     ensures near { IfOk result (λ drawing. are_near 1900 drawing.walks ≡ true) }
+    ensures nearer { IfOk result (λ drawing. are_near 1800 drawing.walks ≡ true) }
 {
     let up = vec![in alloc;
         Run {

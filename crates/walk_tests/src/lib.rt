@@ -1,4 +1,5 @@
-//! Tests of the least free walks on small boards and on a large one, and of moves. Nothing stands on this crate.
+//! Tests of the least free walks on small boards and on a large one, of moves, and of straightening. Nothing stands on this
+//! crate.
 #![tactic(auto)]
 
 #[cfg(test)]
@@ -9,5 +10,7 @@ mod drawings;
 mod graphs;
 #[cfg(test)]
 mod move_tests;
+#[cfg(test)]
+mod straight_tests;
 #[cfg(test)]
 mod walk_tests;
