@@ -12,7 +12,7 @@ use Rattle.grid_board.specs.declared.bounds.Bounds.{Bounds}
 use Rattle.node_homes.specs.Cells.{cell_side}
 use Rattle.line_chains.specs.declared.chain.Chain.{Chain}
 use Rattle.line_chains.specs.declared.chain.ChainStep.{ChainStep}
-use Rattle.line_chains.specs.Chains.{chains_at, chains_by, chains_of, comes_over, far_end, is_corner, is_forward, is_reached, is_reached_from, nodes_of, other_of, plain_corners, ring_corners, round_of, steps_from, unless_ended, way_from, with_ring}
+use Rattle.line_chains.specs.Chains.{chains_at, chains_by, chains_of, comes_over, far_end, is_corner, is_forward, is_reached, is_reached_from, nodes_along, nodes_of, other_of, plain_corners, ring_corners, round_of, steps_from, unless_ended, way_from, with_ring}
 use Rattle.line_chains.specs.Bends.{bend_place, bends_of, chain_bends, corners_of, is_bent, node_at, with_corner}
 use Rattle.drawing_weights.specs.Scales.{node_weight_by, walk_weight_by, weight_by, Scale}
 use Rattle.segment_router.specs.declared.fault.RouteFault.{RouteFault}
@@ -75,7 +75,7 @@ module _ (g : GraphParts) (kinds : List NodeKind) (count : length kinds ≡ leng
       else []
 
   same_of_chain : (cell : ℕ) (c : Chain) → chain_bends h cell c ≡ chain_bends g cell c
-  same_of_chain cell c = same_bends (suc (length c.steps)) cell (c.from ∷ map (λ (t : ChainStep). t.to) c.steps)
+  same_of_chain cell c = same_bends (length (nodes_along c)) cell (nodes_along c)
 
   same_corners : (cell : ℕ) → corners_of h cell ≡ corners_of g cell
   same_corners cell = λ i. fold with_corner (same_rings i) (flat_map (λ c. same_of_chain cell c i) (same_chains (same_rings i) i))
@@ -98,14 +98,16 @@ module _ (g : GraphParts) (kinds : List NodeKind) (count : length kinds ≡ leng
       ap (λ (new : Sketch). if nat_le (length c.steps) (even_steps (points_of w)) then Some new else None)
       (same_pieces c.from c.steps (pieces_of w (length c.steps)) k)
 
+  same_next : (cs : List Chain) → ((new : Sketch) → all_laid h cs new ≡ all_laid g cs new) → (o : Option Sketch)
+      → if_laid (all_laid h cs) o ≡ if_laid (all_laid g cs) o
+  same_next cs later None = refl
+  same_next cs later (Some new) = later new
+
   same_laid : (runs : List Chain) (k : Sketch) → all_laid h runs k ≡ all_laid g runs k
   same_laid [] k = refl
   same_laid (c ∷ cs) k =
-      ap (if_laid (all_laid h cs)) (same_along c k (run_walk g (board_under k) c)) ∙ next (laid g c k)
-    where
-      next : (o : Option Sketch) → if_laid (all_laid h cs) o ≡ if_laid (all_laid g cs) o
-      next None = refl
-      next (Some new) = same_laid cs new
+      ap (if_laid (all_laid h cs)) (same_along c k (run_walk g (board_under k) c))
+      ∙ same_next cs (λ new. same_laid cs new) (laid g c k)
 
   same_without : (bounds : Bounds) (walks : List PlainWalk) (a : Attempt) → without_runs h bounds walks a ≡ without_runs g bounds walks a
   same_without bounds walks a =

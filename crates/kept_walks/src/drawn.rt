@@ -181,7 +181,8 @@ fn drawn(
     ensures cause { IfErr result (λ fault. HasCause (drawing_outcome graph.now cell spread finest straight) fault) }
 {
     let routes = route(alloc, graph, cell, spread, finest)?;
-    Ok(straightened(alloc, graph, routes, cell, straight)?)
+    let drawing = straightened(alloc, graph, routes, cell, straight)?;
+    Ok(drawing)
 }
 
 /// Routes, straightened.
