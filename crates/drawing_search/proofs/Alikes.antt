@@ -31,15 +31,6 @@ use Rattle.drawing_search.specs.Gains.{apart_in, first_point, node_weight_in, pa
 pub alike_self : (k : Sketch) → AreAlike k k
 alike_self k = record { bounds = refl; points_each = refl; stand = refl; walks = refl; points = λ n e. refl }
 
-pub alike_back : (j k : Sketch) → AreAlike j k → AreAlike k j
-alike_back j k a = record {
-  bounds = sym a.bounds;
-  points_each = sym a.points_each;
-  stand = sym a.stand;
-  walks = sym a.walks;
-  points = λ n e. sym (a.points n (ap (λ fs. get_or fs n false) (sym a.stand) ∙ e));
-}
-
 pub alike_on : (i j k : Sketch) → AreAlike i j → AreAlike j k → AreAlike i k
 alike_on i j k a b = record {
   bounds = a.bounds ∙ b.bounds;

@@ -96,10 +96,6 @@ few_rising low (p ∷ ps) h r = let rest = few_rising (code p + 1) ps (omega (ar
 abbrev pub AreBelow : List Join → Type 0
 AreBelow js = (j : Join) → In j js → (j.e.0 < 20000) × (j.f.0 < 20000)
 
-upto_code : (a b : Join) → IsUpTo a b → a.f.0 < 20000 → join_code a ≤ join_code b
-upto_code a b (inl h) f = omega arith
-upto_code a b (inr (e, h)) f = omega arith
-
 apart_code : (a b : Join) → IsUpTo a b → a.f.0 < 20000 → join_same a b ≡ false → join_code a < join_code b
 apart_code a b (inl h) f e = omega arith
 apart_code a b (inr (g, h)) f e = by_last (cases_Bool (eqb a.f.0 b.f.0))

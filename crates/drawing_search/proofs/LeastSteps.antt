@@ -1,12 +1,12 @@
 -- Bounds of a run as they are made: one walk more, and one way more in each walk.
-use Rattle.std.proofs.Common.{◌≡◌, refl, sym, ◌∙◌, ap, subst, ℕ, ◌+◌, ◌*◌, ◌<◌, ◌≤◌, ◌⊎◌, inl, inr, min, List, length, map, get_or, replicate, Option, arith}
+use Rattle.std.proofs.Common.{◌≡◌, refl, ◌∙◌, ap, ℕ, ◌+◌, ◌*◌, ◌<◌, ◌≤◌, ◌⊎◌, inl, inr, min, List, length, map, get_or, replicate, arith}
 use Rattle.std.proofs.lemmas.Bool.{cases_lt}
 use Rattle.std.proofs.lemmas.List.{get_or-replicate, get_or_past}
 use Rattle.std.proofs.lemmas.List.FromFn.{fill_by_all, get_or-map-range_with_len, length-map-range_with_len}
 use Rattle.std.specs.List.{range_with_len}
 use Rattle.octi_grid.specs.declared.dir.Dir.{Dir}
 use Rattle.drawing_search.specs.declared.least.LeastTurns.{LeastTurns}
-use Rattle.drawing_search.specs.Bounds.{with_walk_by, IsSmallLeast, IsSmallOver}
+use Rattle.drawing_search.specs.Bounds.{with_walk_by, IsSmallLeast}
 use Rattle.drawing_search.specs.Least.{turns_at_least}
 
 abbrev pub least_of : List ℕ → ℕ → ℕ → LeastTurns
@@ -37,10 +37,6 @@ walk_small l first last overs small = record {
         let is = get_or_past (map (λ j. min (get_or l.by j 0) (overs + l.per_turn * turns_at_least first last j)) (range_with_len 0 9)) k 0
         (omega (arith, past, length-map-range_with_len (λ j. min (get_or l.by j 0) (overs + l.per_turn * turns_at_least first last j)) 0 9)) in
         omega (arith, is)
-
--- what is small stays so where it is read
-pub over_at : (os : List (Option ℕ)) (i : ℕ) (o : Option ℕ) → i < length os → o ≡ get_or os i o → ((k : ℕ) (d : Option ℕ) → k < length os → IsSmallOver (get_or os k d)) → IsSmallOver o
-over_at os i o h is all = subst IsSmallOver (sym is) (all i o h)
 
 -- bounds before any walk was looked at
 pub never_small : (price free : ℕ) → price ≤ 101 → free ≤ 80000 → IsSmallLeast (least_of (replicate 9 1125899906842624) price free)

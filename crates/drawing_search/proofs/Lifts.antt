@@ -462,9 +462,6 @@ module _ (graph : GraphParts) (fit : IsConsistent graph) (old : Sketch) (h : IsL
     off_then : (n : ℕ) → n < length graph.kinds → (not (is_inner runs n) && not (has_node nodes n)) ≡ false → is_standing k n ≡ false
     off_then n below e = ap (λ (fs : List Bool). get_or fs n false) a.stand ∙ flag_then n below ∙ e
 
-    node_below : (m : NodeId × GridPoint) (n : NodeId) → m ≡ (n, point_of_node old n.0) → n.0 < length graph.kinds → m.0.0 < length graph.kinds
-    node_below m n e below = subst (λ (p : NodeId × GridPoint). p.0.0 < length graph.kinds) (sym e) below
-
     stands_again : (j : Sketch) → j.bounds ≡ old.bounds → length j.points ≡ length graph.kinds → length j.stand ≡ length graph.kinds → (m : NodeId × GridPoint) (n : NodeId) → m ≡ (n, point_of_node old n.0) → n.0 < length graph.kinds → is_standing j n.0 ≡ false
         → CanStand j m.0 m.1
     stands_again j bounds points flags m n e below low =

@@ -1,6 +1,7 @@
 -- The first and the last segment of a run, and where it ends, as they are read.
 use Rattle.std.proofs.Common.{◌≡◌, refl, sym, ◌∙◌, ap, ℕ, zero, suc, ◌+◌, ◌-◌, ◌<◌, ◌≤◌, List, [], ◌∷◌, length, drop, get_or, arith, length-drop}
 use Rattle.std.proofs.lemmas.List.{drop_more}
+use Rattle.map_base.specs.declared.ids.NodeId.{NodeId}
 use Rattle.map_base.specs.declared.ids.SegId.{SegId}
 use Rattle.line_chains.specs.declared.chain.ChainStep.{ChainStep}
 use Rattle.line_chains.specs.Chains.{last_seg}
@@ -30,6 +31,12 @@ inner_more ts i d some h =
 
     rest : drop i ts ≡ get_or ts i d ∷ drop (i + 1) ts
     rest = drop_more ts i d h
+
+-- and what is left behind the next step
+pub inner_left : (ts : List ChainStep) (i : ℕ) (d : ChainStep) → 1 ≤ i → i < length ts → inner_nodes (drop (i - 1) ts) ≡ (let ns : List NodeId = (get_or ts (i - 1) d).to ∷ inner_nodes (drop (i + 1 - 1) ts) in ns)
+inner_left ts i d some h =
+    let whole : i ≡ i + 1 - 1 = omega arith in
+    inner_more ts i d (omega (arith, some)) h ∙ ap (λ j. (let ns : List NodeId = (get_or ts (i - 1) d).to ∷ inner_nodes (drop j ts) in ns)) whole
 
 pub inner_end : (ts : List ChainStep) (i : ℕ) → length ts ≤ i → inner_nodes (drop (i - 1) ts) ≡ []
 inner_end ts i h = of_few (drop (i - 1) ts) (omega (arith, length-drop (i - 1) ts))

@@ -20,10 +20,6 @@ over_numbers a b c h k l less = omega arith
 over : (f g e : Dir) → distance_to f g + distance_to g e ≤ 8 → distance_to f e ≡ distance_to f g + distance_to g e
 over f g e less = over_numbers (number_of f) (number_of g) (number_of e) (omega (arith, number_small f)) (omega (arith, number_small g)) (omega (arith, number_small e)) less
 
--- the gaps of stops are spaced, and go so far together
-abbrev IsSpaced : List (ℕ × ℕ) → ℕ → Type 0
-IsSpaced gaps far = (has_room gaps ≡ true) × (turned_over gaps ≡ far)
-
 -- the first of gaps may be one that is made of two
 joined : (g : ℕ × ℕ) (rest : List (ℕ × ℕ)) (a b m n : ℕ) → g.0 ≡ a + b → g.1 ≡ m + n → m ≤ a → has_room ((b, n) ∷ rest) ≡ true → (has_room (g ∷ rest) ≡ true) × (turned_over (g ∷ rest) ≡ a + turned_over ((b, n) ∷ rest))
 joined g rest a b m n far wide first room =

@@ -1,5 +1,5 @@
 -- Runs that stand may be taken off the board: first their walks, then the nodes between their ends.
-use Rattle.std.proofs.Common.{◌≡◌, refl, sym, ◌∙◌, ap, subst, ℕ, zero, suc, ◌<◌, ◌≤◌, true, false, List, [], ◌∷◌, length, get_or, set, Contains, Option, Some, None, ◌⊎◌, inl, inr, arith, get_or-set_other}
+use Rattle.std.proofs.Common.{◌≡◌, refl, sym, ◌∙◌, ap, subst, ℕ, zero, suc, ◌+◌, ◌-◌, ◌<◌, ◌≤◌, true, false, List, [], ◌∷◌, length, drop, get_or, set, Contains, Option, Some, None, ◌⊎◌, inl, inr, arith, get_or-set_other}
 use Rattle.std.proofs.lemmas.Bool.{cases_eq, cases_lt}
 use Rattle.std.proofs.lemmas.List.{get_or_past}
 use Rattle.map_base.specs.declared.ids.NodeId.{NodeId}
@@ -15,7 +15,8 @@ use Rattle.run_laying.specs.Laying.{Sketch}
 use Rattle.run_laying.specs.Runs.{AreOnce, AreSteps, IsRun}
 use Rattle.run_laying.specs.Sketches.{is_standing, lifted, walk_in, with_walk_of, IsEndOf, IsLegalSketch}
 use Rattle.run_laying.proofs.RunFacts.{contains_in, inner_of, inner_off, leads_to, once_first, IsOff}
-use Rattle.drawing_search.specs.Changes.{without_walks, AreApart, AreLiftable, IsTakable}
+use Rattle.drawing_search.specs.Changes.{without_walks, AreApart, AreLiftable, IsLiftable, IsTakable}
+use Rattle.drawing_search.proofs.RunEnds.{inner_left}
 use Rattle.drawing_search.proofs.TakenOff.{lifted_legal, off_legal}
 
 -- what is at a place of a list is in it
@@ -25,6 +26,11 @@ in_from (y ∷ ys) x (zero, h, e) = inl (sym e)
 in_from (y ∷ ys) x (suc i, h, e) = inr (in_from ys x (i, omega (arith, h), e))
 
 -- ---- nodes
+
+-- the nodes between steps may be taken off one after another
+pub next_liftable : (graph : GraphParts) (k : Sketch) (ts : List ChainStep) (i : ℕ) (d : ChainStep) → 1 ≤ i → i < length ts → AreLiftable graph k (inner_nodes (drop (i - 1) ts))
+    → IsLiftable graph k (get_or ts (i - 1) d).to × AreLiftable graph (lifted k (get_or ts (i - 1) d).to) (inner_nodes (drop (i + 1 - 1) ts))
+next_liftable graph k ts i d some h can = subst (AreLiftable graph k) (inner_left ts i d some h) can
 
 -- no walk ends at a node
 abbrev pub IsBare : GraphParts → Sketch → NodeId → Type 0

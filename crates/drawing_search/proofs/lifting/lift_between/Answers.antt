@@ -1,29 +1,19 @@
 use Rattle.std.proofs.Common.{◌≡◌, ℕ, ◌+◌, ◌-◌, ◌<◌, ◌≤◌, List, [], ◌∷◌, ◌++◌, pos, length, map, fold, get_or, drop, append_assoc, append-nil, sym, ap, subst, ◌∙◌, arith}
 use Rattle.map_base.specs.declared.ids.NodeId.{NodeId}
-use Rattle.graph_core.specs.declared.parts.GraphParts.{GraphParts}
 use Rattle.line_chains.specs.declared.chain.ChainStep.{ChainStep}
 use Rattle.octi_grid.specs.declared.point.GridPoint.{GridPoint}
 use Rattle.run_laying.specs.Attempts.{inner_nodes}
 use Rattle.run_laying.specs.Laying.{Sketch}
 use Rattle.run_laying.specs.Sketches.{lifted as lifted_off, point_of_node}
 use Rattle.run_laying.proofs.Shown.{stands_below}
-use Rattle.drawing_search.specs.Changes.{AreLiftable, IsLiftable}
+use Rattle.drawing_search.specs.Changes.{AreLiftable}
 use Rattle.drawing_search.specs.Lifting.{points_along}
-use Rattle.drawing_search.proofs.RunEnds.{inner_end, inner_more}
+use Rattle.drawing_search.proofs.RunEnds.{inner_end, inner_left}
+use Rattle.drawing_search.proofs.Takable.{next_liftable}
 use Rattle.drawing_search.proofs.lifting.lift_between.Goals as goal
 
 abbrev none : ChainStep
 none = record { seg = record { 0 = 0 }; to = record { 0 = 0 } }
-
--- the nodes that are left before a step
-left : (ts : List ChainStep) (i : ℕ) → 1 ≤ i → i < length ts → inner_nodes (drop (i - 1) ts) ≡ (let ns : List NodeId = (get_or ts (i - 1) none).to ∷ inner_nodes (drop (i + 1 - 1) ts) in ns)
-left ts i some h =
-    let whole : i ≡ i + 1 - 1 = omega arith in
-    inner_more ts i none (omega (arith, some)) h ∙ ap (λ j. (let ns : List NodeId = (get_or ts (i - 1) none).to ∷ inner_nodes (drop j ts) in ns)) whole
-
-next : (graph : GraphParts) (k : Sketch) (ts : List ChainStep) (i : ℕ) → 1 ≤ i → i < length ts → AreLiftable graph k (inner_nodes (drop (i - 1) ts))
-    → IsLiftable graph k (get_or ts (i - 1) none).to × AreLiftable graph (lifted_off k (get_or ts (i - 1) none).to) (inner_nodes (drop (i + 1 - 1) ts))
-next graph k ts i some h can = subst (AreLiftable graph k) (left ts i some h) can
 
 -- one point more
 one_more : (k old : Sketch) (ts : List ChainStep) (i : ℕ) (p : GridPoint) (before inner : List (NodeId × GridPoint)) → 1 ≤ i → i < length ts → p ≡ point_of_node k (get_or ts (i - 1) none).to.0 → k.points ≡ old.points
@@ -32,16 +22,16 @@ one_more k old ts i p before inner some h is same pushed =
     ap (λ (v : List (NodeId × GridPoint)). v ++ points_along old (drop (i + 1 - 1) ts)) pushed
     ∙ append_assoc before (((get_or ts (i - 1) none).to, p) ∷ []) (points_along old (drop (i + 1 - 1) ts))
     ∙ ap (λ (q : GridPoint). before ++ ((get_or ts (i - 1) none).to, q) ∷ points_along old (drop (i + 1 - 1) ts)) (is ∙ ap (λ (ps : List GridPoint). get_or ps (get_or ts (i - 1) none).to.0 (record { x = pos 0; y = pos 0 })) same)
-    ∙ ap (λ (ns : List NodeId). before ++ map (λ (n : NodeId). (n, point_of_node old n.0)) ns) (sym (left ts i some h))
+    ∙ ap (λ (ns : List NodeId). before ++ map (λ (n : NodeId). (n, point_of_node old n.0)) ns) (sym (inner_left ts i none some h))
 
 pub point-requires : goal.point-requires
 point-requires c =
-    let can = (next c.args.field.graph.now c.loop-i.sketch c.args.steps.now c.loop-i.i c.loop-i.auto.i c.loop-i-test.true c.loop-i.invariant.can).0 in
+    let can = (next_liftable c.args.field.graph.now c.loop-i.sketch c.args.steps.now c.loop-i.i none c.loop-i.auto.i c.loop-i-test.true c.loop-i.invariant.can).0 in
     omega (arith, stands_below c.args.field.graph.now c.loop-i.sketch can.legal (get_or c.args.steps.now (c.loop-i.i - 1) none).to.0 can.stands, can.legal.points_each)
 
 pub lift-requires : goal.lift-requires
 lift-requires c =
-    let can = (next c.args.field.graph.now c.loop-i.sketch c.args.steps.now c.loop-i.i c.loop-i.auto.i c.loop-i-test.true c.loop-i.invariant.can).0 in
+    let can = (next_liftable c.args.field.graph.now c.loop-i.sketch c.args.steps.now c.loop-i.i none c.loop-i.auto.i c.loop-i-test.true c.loop-i.invariant.can).0 in
     record { legal = can.legal; stands = can.stands }
 
 pub loop-i-preserved : goal.loop-i-preserved
@@ -50,8 +40,8 @@ loop-i-preserved c =
     let i = c.loop-i.i in
     let k = c.loop-i.sketch in
     record {
-      rest = ap (λ (j : Sketch). fold lifted_off j (inner_nodes (drop (i + 1 - 1) ts))) c.lift.ensures ∙ sym (ap (fold lifted_off k) (left ts i c.loop-i.auto.i c.loop-i-test.true)) ∙ c.loop-i.invariant.rest;
-      can = subst (λ (j : Sketch). AreLiftable c.args.field.graph.now j (inner_nodes (drop (i + 1 - 1) ts))) (sym c.lift.ensures) (next c.args.field.graph.now k ts i c.loop-i.auto.i c.loop-i-test.true c.loop-i.invariant.can).1;
+      rest = ap (λ (j : Sketch). fold lifted_off j (inner_nodes (drop (i + 1 - 1) ts))) c.lift.ensures ∙ sym (ap (fold lifted_off k) (inner_left ts i none c.loop-i.auto.i c.loop-i-test.true)) ∙ c.loop-i.invariant.rest;
+      can = subst (λ (j : Sketch). AreLiftable c.args.field.graph.now j (inner_nodes (drop (i + 1 - 1) ts))) (sym c.lift.ensures) (next_liftable c.args.field.graph.now k ts i none c.loop-i.auto.i c.loop-i-test.true c.loop-i.invariant.can).1;
       points = ap (λ (j : Sketch). j.points) c.lift.ensures ∙ c.loop-i.invariant.points;
       inner = one_more k c.args.sketch.now ts i c.point.result c.loop-i.lifted.inner.items _ c.loop-i.auto.i c.loop-i-test.true c.point.ensures c.loop-i.invariant.points c.in_ok-push.ensures.items ∙ c.loop-i.invariant.inner;
       walks = c.loop-i.invariant.walks;

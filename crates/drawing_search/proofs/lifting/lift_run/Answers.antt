@@ -4,21 +4,19 @@ use Rattle.std.specs.List.{cons_option}
 use Rattle.std.specs.Prelude.{OnOk}
 use Rattle.map_base.specs.declared.ids.NodeId.{NodeId}
 use Rattle.map_base.specs.declared.ids.SegId.{SegId}
-use Rattle.graph_core.specs.declared.parts.GraphParts.{GraphParts}
-use Rattle.line_chains.specs.declared.chain.Chain.{Chain}
 use Rattle.line_chains.specs.declared.chain.ChainStep.{ChainStep}
 use Rattle.octi_grid.specs.declared.point.GridPoint.{GridPoint}
 use Rattle.octi_grid.specs.Walks.{PlainWalk}
-use Rattle.segment_router.proofs.Places.{in_at}
 use Rattle.run_laying.specs.Attempts.{inner_nodes}
 use Rattle.run_laying.specs.Laying.{Sketch}
-use Rattle.run_laying.specs.Runs.{AreOnce, IsRun}
+use Rattle.run_laying.specs.Runs.{AreOnce}
 use Rattle.run_laying.specs.Sketches.{lifted as lifted_off, walk_in, with_walk_of, IsLegalSketch}
-use Rattle.run_laying.proofs.RunFacts.{step_of}
 use Rattle.drawing_search.specs.declared.least.LeastTurns.{LeastTurns}
 use Rattle.drawing_search.specs.declared.lifting.Lifted.{Lifted}
 use Rattle.drawing_search.specs.Changes.{without_walks, AreLiftable}
+use Rattle.drawing_search.specs.Gains.{AreOnGraph}
 use Rattle.drawing_search.specs.Lifting.{points_along, walks_along}
+use Rattle.drawing_search.proofs.RunReads.{run_on_graph}
 use Rattle.drawing_search.proofs.TakenOff.{off_legal}
 use Rattle.drawing_search.proofs.WalksOff.{once_rest, walks_off}
 use Rattle.drawing_search.proofs.lifting.lift_run.Goals.{in-Some+in_ok-push, in_default}
@@ -26,11 +24,6 @@ use Rattle.drawing_search.proofs.lifting.lift_run.Goals as goal
 
 abbrev none : ChainStep
 none = record { seg = record { 0 = 0 }; to = record { 0 = 0 } }
-
-segment_at : (graph : GraphParts) (c : Chain) → IsRun graph c → (ts : List ChainStep) → ts ≡ c.steps → (i : ℕ) → i < length ts → (get_or ts i none).seg.0 < length graph.ends
-segment_at graph c run ts same i h =
-    subst (λ (v : List ChainStep). (get_or v i none).seg.0 < length graph.ends) (sym same)
-    (step_of graph c.from c.steps run.steps (get_or c.steps i none) (in_at c.steps i none (subst (λ (v : List ChainStep). i < length v) same h))).segment
 
 -- what the next step has is listed, and it loses its walk
 one_walk : (k new : Sketch) (ts : List ChainStep) (i : ℕ) (o : Option PlainWalk) (before walks : List (SegId × PlainWalk)) → AreOnce ts → i < length ts → o ≡ walk_in k (get_or ts i none).seg → new ≡ with_walk_of k (get_or ts i none).seg None
@@ -46,7 +39,7 @@ one_walk k new ts i o before walks once h came is listed =
     joined xs (Some x) ys = append_assoc xs (x ∷ []) ys
 
 pub take_walk-requires-clause-segment : goal.take_walk-requires-clause-segment
-take_walk-requires-clause-segment c = segment_at c.args.field.graph.now c.args.run.now c.requires.takable.run c.as_slice-steps.result.now c.as_slice-steps.ensures c.loop-step.step-index c.loop-step-test.true
+take_walk-requires-clause-segment c = (subst (AreOnGraph c.args.field.graph.now) (sym c.as_slice-steps.ensures) (run_on_graph c.args.field.graph.now c.requires.field.graph c.args.run.now c.requires.takable.run) c.loop-step.step-index none c.loop-step-test.true).0
 
 pub loop-step-preserved : goal.loop-step-preserved
 loop-step-preserved c =

@@ -1,28 +1,20 @@
-use Rattle.std.proofs.Common.{◌≡◌, ℕ, ◌+◌, ◌<◌, List, length, fold, get_or, drop, sym, ap, subst, ◌∙◌}
+use Rattle.std.proofs.Common.{◌≡◌, ◌+◌, List, fold, get_or, drop, sym, ap, subst, ◌∙◌}
 use Rattle.std.proofs.lemmas.List.{at_drop_all, at_drop_more}
-use Rattle.graph_core.specs.declared.parts.GraphParts.{GraphParts}
-use Rattle.line_chains.specs.declared.chain.Chain.{Chain}
 use Rattle.line_chains.specs.declared.chain.ChainStep.{ChainStep}
-use Rattle.segment_router.proofs.Places.{in_at}
 use Rattle.run_laying.specs.Attempts.{inner_nodes}
 use Rattle.run_laying.specs.Laying.{Sketch}
-use Rattle.run_laying.specs.Runs.{IsRun}
 use Rattle.run_laying.specs.Sketches.{lifted, IsLegalSketch}
-use Rattle.run_laying.proofs.RunFacts.{step_of}
 use Rattle.drawing_search.specs.Changes.{without_walks, AreLiftable}
+use Rattle.drawing_search.specs.Gains.{AreOnGraph}
+use Rattle.drawing_search.proofs.RunReads.{run_on_graph}
 use Rattle.drawing_search.proofs.TakenOff.{off_legal}
 use Rattle.drawing_search.proofs.sketch.Sketch.take_run.Goals as goal
 
 abbrev none : ChainStep
 none = record { seg = record { 0 = 0 }; to = record { 0 = 0 } }
 
-segment_at : (graph : GraphParts) (c : Chain) → IsRun graph c → (ts : List ChainStep) → ts ≡ c.steps → (i : ℕ) → i < length ts → (get_or ts i none).seg.0 < length graph.ends
-segment_at graph c run ts same i h =
-    subst (λ (v : List ChainStep). (get_or v i none).seg.0 < length graph.ends) (sym same)
-    (step_of graph c.from c.steps run.steps (get_or c.steps i none) (in_at c.steps i none (subst (λ (v : List ChainStep). i < length v) same h))).segment
-
 pub take_walk-requires-clause-segment : goal.take_walk-requires-clause-segment
-take_walk-requires-clause-segment c = segment_at c.args.graph.now c.args.run.now c.requires.takable.run c.as_slice-steps.result.now c.as_slice-steps.ensures c.loop-step.step-index c.loop-step-test.true
+take_walk-requires-clause-segment c = (subst (AreOnGraph c.args.graph.now) (sym c.as_slice-steps.ensures) (run_on_graph c.args.graph.now c.requires.graph c.args.run.now c.requires.takable.run) c.loop-step.step-index none c.loop-step-test.true).0
 
 pub loop-step-preserved : goal.loop-step-preserved
 loop-step-preserved c =
