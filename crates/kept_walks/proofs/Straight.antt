@@ -1,7 +1,5 @@
 -- Routes, straightened.
-use Rattle.std.proofs.Common.{◌≡◌, ◌∙◌, ap, sym, ℕ, true, List, Ok}
-use Rattle.std.specs.Prelude.{◌==◌}
-use Rattle.std.proofs.lemmas.Bool.{eqb-true}
+use Rattle.std.proofs.Common.{◌≡◌, ◌∙◌, ap, sym, ℕ, List, Ok}
 use Rattle.map_method.specs.declared.spread.Spread.{Spread}
 use Rattle.graph_core.specs.declared.parts.GraphParts.{GraphParts}
 use Rattle.octi_grid.specs.Walks.{PlainWalk}
@@ -25,7 +23,7 @@ drawing_there graph cell spread finest straight routes walks routed same =
     ap (straightened_routes graph cell straight) routed ∙ ap (λ (w : List PlainWalk). Ok w) (sym same)
 
 -- where no attempt is made, routes stay as they are
-pub not_straightened : (graph : GraphParts) (cell straight : ℕ) (walks : List PlainWalk) → (straight == 0) ≡ true
+pub not_straightened : (graph : GraphParts) (cell straight : ℕ) (walks : List PlainWalk) → straight ≡ 0
     → walks ≡ straightened_walks graph cell straight walks
 not_straightened graph cell straight walks none =
-    ap (λ (n : ℕ). straightened_walks graph cell n walks) (sym (eqb-true straight 0 none))
+    ap (λ (n : ℕ). straightened_walks graph cell n walks) (sym none)

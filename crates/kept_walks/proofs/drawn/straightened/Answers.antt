@@ -15,7 +15,7 @@ pub returns-clause-walks : goal.returns-clause-walks
 returns-clause-walks c =
     c.in_ok-searched.ensures.drawing
     ∙ ap (λ (side : ℕ). (straightening.straightened c.args.graph.now side c.args.straight c.args.routes.walks).walks)
-    c.side_over.ensures.value
+    c.side_over-side.ensures.value
 
 pub returns-clause-near : goal.returns-clause-near
 returns-clause-near c = c.in_ok-searched.ensures.near 1800 c.requires.near
