@@ -1,4 +1,4 @@
-use Rattle.std.proofs.Common.{◌<◌, List, length, sym, subst, refl, arith}
+use Rattle.std.proofs.Common.{List, sym, subst, refl, arith}
 use Rattle.map_base.specs.declared.ids.LineId.{LineId}
 use Rattle.order_model.specs.Problems.{lines_on}
 use Rattle.order_model.specs.Completions.{placed_more}

@@ -14,7 +14,6 @@ use Rattle.order_check.specs.Asking.{question_of}
 use Rattle.order_check.specs.Children.{child_lines}
 use Rattle.order_check.specs.declared.slot.PartTerm.{PartTerm}
 use Rattle.order_check.specs.Placings.{placing_of, changes}
-use Rattle.order_model.specs.Completions.{placed_more}
 use Rattle.order_check.specs.Counting.{placed_less, IsTallyWithout}
 use Rattle.order_check.specs.Walking.{IsWalked, split_test}
 use Rattle.order_check.proofs.Tallies.{without_back, case_those}
