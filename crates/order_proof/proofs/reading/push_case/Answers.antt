@@ -1,0 +1,16 @@
+use Rattle.std.proofs.Common.{[], ◌∷◌, ◌++◌, refl, ap, ◌∙◌}
+use Rattle.order_proof.specs.declared.tree.Tree.{Tree, Split}
+use Rattle.order_proof.specs.Plain.{plain}
+use Rattle.order_proof.specs.Begun.{cases_in, with_case}
+use Rattle.order_proof.proofs.Children.{pushed_closed, pushed_split}
+use Rattle.order_proof.proofs.reading.push_case.Goals as goal
+
+pub returns-in-Close : goal.returns-in-Close
+returns-in-Close c =
+    pushed_closed c.args.tree.now c.in-Close.prices (with_case (cases_in (plain c.args.tree.now)) c.args.line (plain c.args.child.value)) c.in-Close.is
+
+pub returns-in_ok-push-in-Split : goal.returns-in_ok-push-in-Split
+returns-in_ok-push-in-Split c =
+    let pushed = (rw c.in-Split.is at c.in_ok-push-in-Split.ensures.items) ∙ ap (λ (u : Tree). c.in-Split.children.items ++ (c.args.line, u) ∷ []) c.into_inner.ensures in
+    rw c.in-Split.is
+    (pushed_split (Split c.in-Split.seg c.in-Split.children) (Split c.in-Split.seg c.push.new.self) c.in-Split.seg c.in-Split.children c.push.new.self c.args.line c.args.child.value refl refl pushed)
