@@ -24,10 +24,11 @@ pushed_closed tree prices cases is =
     let closed = ap plain is ∙ plain-Close prices in
     closed ∙ sym (ap (λ (t : PlainTree). with_cases t cases) closed)
 
-pub pushed_split : (old new : Tree) (seg : SegId) (children more : Vec (LineId × Tree) Global) (a : LineId) (t : Tree) → old ≡ Split seg children → new ≡ Split seg more
-    → more.items ≡ children.items ++ (a, t) ∷ [] → plain new ≡ with_cases (plain old) (with_case (cases_in (plain old)) a (plain t))
-pushed_split old new seg children more a t was is pushed =
-    ap plain is ∙ plain-Split seg more ∙ ap (split seg) (ap plain_children pushed ∙ children_push children.items a t)
+pub pushed_split : (old new : Tree) (seg : SegId) (children more : Vec (LineId × Tree) Global) (a : LineId) (t u : Tree) (before : List (LineId × Tree)) → old ≡ Split seg children
+    → more.items ≡ before ++ (a, u) ∷ [] → u ≡ t → before ≡ children.items → new ≡ Split seg more → plain new ≡ with_cases (plain old) (with_case (cases_in (plain old)) a (plain t))
+pushed_split old new seg children more a t u before was pushed is same made =
+    ap plain made ∙ plain-Split seg more
+    ∙ ap (split seg) (ap plain_children (pushed ∙ ap (λ (v : Tree). before ++ (a, v) ∷ []) is ∙ ap (λ (cs : List (LineId × Tree)). cs ++ (a, t) ∷ []) same) ∙ children_push children.items a t)
     ∙ sym (ap (λ (p : PlainTree). with_cases p (with_case (cases_in p) a (plain t))) (ap plain was ∙ plain-Split seg children))
 
 pub count_push : (cs : Cases) (a : LineId) (t : PlainTree) → count_of (with_case cs a t) ≡ suc (count_of cs)

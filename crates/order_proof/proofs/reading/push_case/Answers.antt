@@ -1,5 +1,5 @@
-use Rattle.std.proofs.Common.{[], ◌∷◌, ◌++◌, refl, ap, ◌∙◌}
-use Rattle.order_proof.specs.declared.tree.Tree.{Tree, Split}
+use Rattle.std.proofs.Common.{rules}
+use Rattle.order_proof.specs.declared.tree.Tree.{the_lemmas}
 use Rattle.order_proof.specs.Plain.{plain}
 use Rattle.order_proof.specs.Begun.{cases_in, with_case}
 use Rattle.order_proof.proofs.Children.{pushed_closed, pushed_split}
@@ -11,6 +11,5 @@ returns-in-Close c =
 
 pub returns-in_ok-push-in-Split : goal.returns-in_ok-push-in-Split
 returns-in_ok-push-in-Split c =
-    let pushed = (rw c.in-Split.is at c.in_ok-push-in-Split.ensures.items) ∙ ap (λ (u : Tree). c.in-Split.children.items ++ (c.args.line, u) ∷ []) c.into_inner.ensures in
-    rw c.in-Split.is
-    (pushed_split (Split c.in-Split.seg c.in-Split.children) (Split c.in-Split.seg c.push.new.self) c.in-Split.seg c.in-Split.children c.push.new.self c.args.line c.args.child.value refl refl pushed)
+    pushed_split c.args.tree.now _ c.in-Split.seg c.in-Split.children c.push.new.self c.args.line c.args.child.value c.into_inner.result _ c.in-Split.is
+    c.in_ok-push-in-Split.ensures.items c.into_inner.ensures (search (rules, the_lemmas)) (search (rules, the_lemmas))
