@@ -1,5 +1,5 @@
 -- The tally of a part's terms, once those that a placing may change are taken off or put on, and where lines are placed.
-use Rattle.std.proofs.Common.{◌≡◌, ℕ, ◌+◌, ◌-◌, ◌*◌, ◌<◌, ◌≤◌, ◌++◌, append-nil, Bool, true, false, cond, List, [], length, map, set, get_or, refl, sym, ◌∙◌, ap, subst, arith, Some, None}
+use Rattle.std.proofs.Common.{◌≡◌, ℕ, ◌+◌, ◌-◌, ◌*◌, ◌<◌, ◌≤◌, ◌++◌, append-nil, Bool, true, false, cond, List, [], length, map, set, get_or, refl, sym, ◌∙◌, ap, arith, Some, None}
 use Rattle.std.specs.Prelude.{ℤ, pos, ◌+ℤ◌, unsigned_abs, position}
 use Rattle.std.specs.List.{sum_by, Contains}
 use Rattle.std.proofs.lemmas.Int.{ints}
@@ -243,11 +243,3 @@ pub case_those : (asked : Asked) (placed : List (List LineId)) (s : SegId) (a : 
 case_those asked placed s a p some items ok made picked same =
     changed_are (placing_of asked.problem.now.segs placed s a) (lines_on asked.problem.now.segs s) (lines_on placed s) asked some (table_fits asked ok) (table_few asked ok)
     (same ∙ picked ∙ ap (λ (q : Placing). changed_terms q (lines_on asked.problem.now.segs q.seg) (lines_on placed q.seg) asked.table.now.terms.items) made)
-
--- after a case the tally is what it was
-pub case_tally : (asked : Asked) (before after : List (List LineId)) (sums all : Sums) (first costs : List SlotCost) → IsTally asked before sums first → IsTally asked after all costs
-    → length costs ≡ length first → after ≡ before → IsTally asked after sums costs
-case_tally asked before after sums all first costs tally on each restored =
-    let there : IsTally asked before all costs = subst (λ p. IsTally asked p all costs) restored on in
-    subst (λ p. IsTally asked p sums costs) (sym restored)
-    (tally_stays asked before sums first costs tally each (λ k below x. there.slots k (omega (arith, below, each)) x ∙ sym (tally.slots k below x)))

@@ -133,8 +133,8 @@ fn check_tree(
     let mut costs = vec![in alloc; nothing; asked.table.slots.len()]?;
     let mut way = Vec::new(alloc);
     let costs = costs.as_mut_slice();
-    let sums = first_tally(asked, prefix, costs);
-    if walk(alloc, asked, prefix, sums, costs, &mut way, tree)? {
+    let mut sums = first_tally(asked, prefix, costs);
+    if walk(alloc, asked, prefix, &mut sums, costs, &mut way, tree)? {
         return Ok(());
     }
     Err(ProofStop::Refuted(ProofItem::Part {

@@ -1,7 +1,7 @@
 //! The walk over a tree, node by node in the order of the text. What it calls beside itself is not merged into it, so that
 //! a level of the tree takes little of the stack.
 
-ghost use Rattle.std.specs.Prelude.{◌≡◌, ◌<◌, length, true, false, Contains, IfOk};
+ghost use Rattle.std.specs.Prelude.{◌≡◌, ◌<◌, length, false, Contains, IfOk};
 ghost use Rattle.order_model.specs.Problems.{lines_on};
 ghost use Rattle.order_model.specs.Prefixes.{IsPrefixOf, is_placed};
 ghost use Rattle.order_proof.specs.Plain.{split, plain, plain_children};
@@ -9,15 +9,12 @@ ghost use Rattle.order_proof.specs.Trees.{IsTree};
 ghost use Rattle.order_model.specs.Completions.{placed_more};
 ghost use Rattle.order_bound.specs.Accepting.{after_line, failing};
 ghost use Rattle.order_check.specs.Asking.{question_of, IsAsked, HasTable};
-ghost use Rattle.order_check.specs.Children.{child_lines};
 ghost use Rattle.order_check.specs.Counting.{IsTally};
-ghost use Rattle.order_check.specs.Walking.{IsWalked, split_test};
+ghost use Rattle.order_check.specs.Walking.{IsWalked};
 
 use crate::asked::Asked;
 use crate::close::is_closed;
 use crate::node::is_split;
-use crate::picking::changed_terms;
-use crate::placing::placing_of;
 use crate::slot::{SlotCost, Sums};
 use crate::tally::{place_line, take_line_back};
 use map_base::{LineId, NoMemory, SegId};
@@ -32,7 +29,7 @@ pub(crate) fn walk(
     alloc: Global,
     asked: &Asked,
     prefix: &mut Prefix,
-    sums: Sums,
+    sums: &mut Sums,
     costs: &mut [SlotCost],
     way: &mut Vec<LineId>,
     tree: &Tree,
@@ -40,15 +37,15 @@ pub(crate) fn walk(
     requires asked { IsAsked asked.now }
     requires fits { IsPrefixOf asked.now.problem.now.segs prefix.old }
     requires tree { IsTree (plain tree.now) }
-    requires tally { IsTally asked.now prefix.old.placed sums costs.old }
+    requires tally { IsTally asked.now prefix.old.placed sums.old costs.old }
     requires table { HasTable asked.now costs.old }
     ensures fits { IsPrefixOf asked.now.problem.now.segs prefix.new }
     ensures placed { prefix.new.placed ≡ prefix.old.placed }
-    ensures tally { IsTally asked.now prefix.new.placed sums costs.new }
+    ensures tally { IsTally asked.now prefix.new.placed sums.new costs.new }
     ensures walked { IfOk result (IsWalked (failing (question_of asked.now) prefix.old.placed (plain tree.now)) way.old.items way.new.items) }
 {
     match tree {
-        Tree::Close { prices } => Ok(is_closed(asked, prefix, sums, costs, prices)),
+        Tree::Close { prices } => Ok(is_closed(asked, prefix, *sums, costs, prices)),
         Tree::Split { seg, children } => {
             walk_split(
                 alloc,
@@ -70,7 +67,7 @@ fn walk_split(
     alloc: Global,
     asked: &Asked,
     prefix: &mut Prefix,
-    sums: Sums,
+    sums: &mut Sums,
     costs: &mut [SlotCost],
     way: &mut Vec<LineId>,
     seg: SegId,
@@ -79,42 +76,16 @@ fn walk_split(
     requires asked { IsAsked asked.now }
     requires fits { IsPrefixOf asked.now.problem.now.segs prefix.old }
     requires tree { IsTree (split seg (plain_children children.now)) }
-    requires tally { IsTally asked.now prefix.old.placed sums costs.old }
+    requires tally { IsTally asked.now prefix.old.placed sums.old costs.old }
     requires table { HasTable asked.now costs.old }
     ensures fits { IsPrefixOf asked.now.problem.now.segs prefix.new }
     ensures placed { prefix.new.placed ≡ prefix.old.placed }
-    ensures tally { IsTally asked.now prefix.new.placed sums costs.new }
+    ensures tally { IsTally asked.now prefix.new.placed sums.new costs.new }
     ensures walked { IfOk result (IsWalked (failing (question_of asked.now) prefix.old.placed (split seg (plain_children children.now))) way.old.items way.new.items) }
 {
     if !is_split(asked, prefix, seg, children) {
         return Ok(false);
     }
-    walk_cases(alloc, asked, prefix, sums, costs, way, seg, children)
-}
-
-/// The same of the cases of a Split that holds.
-#[cycle(walk)]
-fn walk_cases(
-    alloc: Global,
-    asked: &Asked,
-    prefix: &mut Prefix,
-    sums: Sums,
-    costs: &mut [SlotCost],
-    way: &mut Vec<LineId>,
-    seg: SegId,
-    children: &[(LineId, Tree)],
-) -> Result<bool, NoMemory>
-    requires asked { IsAsked asked.now }
-    requires fits { IsPrefixOf asked.now.problem.now.segs prefix.old }
-    requires tree { IsTree (split seg (plain_children children.now)) }
-    requires holds { split_test (question_of asked.now) prefix.old.placed seg (child_lines children.now) ≡ true }
-    requires tally { IsTally asked.now prefix.old.placed sums costs.old }
-    requires table { HasTable asked.now costs.old }
-    ensures fits { IsPrefixOf asked.now.problem.now.segs prefix.new }
-    ensures placed { prefix.new.placed ≡ prefix.old.placed }
-    ensures tally { IsTally asked.now prefix.new.placed sums costs.new }
-    ensures walked { IfOk result (IsWalked (failing (question_of asked.now) prefix.old.placed (split seg (plain_children children.now))) way.old.items way.new.items) }
-{
     for child in children {
         if !walk_case(
             alloc, asked, prefix, sums, costs, way, seg, child.0, &child.1,
@@ -131,7 +102,7 @@ fn walk_case(
     alloc: Global,
     asked: &Asked,
     prefix: &mut Prefix,
-    sums: Sums,
+    sums: &mut Sums,
     costs: &mut [SlotCost],
     way: &mut Vec<LineId>,
     seg: SegId,
@@ -144,21 +115,18 @@ fn walk_case(
     requires line { Contains (lines_on asked.now.problem.now.segs seg) line }
     requires unplaced { is_placed (lines_on prefix.old.placed seg) line ≡ false }
     requires tree { IsTree (plain tree.now) }
-    requires tally { IsTally asked.now prefix.old.placed sums costs.old }
+    requires tally { IsTally asked.now prefix.old.placed sums.old costs.old }
     requires table { HasTable asked.now costs.old }
     ensures fits { IsPrefixOf asked.now.problem.now.segs prefix.new }
     ensures placed { prefix.new.placed ≡ prefix.old.placed }
-    ensures tally { IsTally asked.now prefix.new.placed sums costs.new }
+    ensures tally { IsTally asked.now prefix.new.placed sums.new costs.new }
     ensures walked { IfOk result (IsWalked (after_line line (failing (question_of asked.now)
         (placed_more asked.now.problem.now.segs prefix.old.placed seg line) (plain tree.now))) way.old.items way.new.items) }
 {
     way.push(line)?;
-    let placing = placing_of(asked.problem, prefix, seg, line);
-    let changed = changed_terms(alloc, asked, prefix, placing)?;
-    let some = changed.as_slice();
-    let after = place_line(asked, prefix, some, sums, costs, seg, line);
-    let outcome = walk(alloc, asked, prefix, after, costs, way, tree);
-    let _same = take_line_back(asked, prefix, some, after, costs, seg);
+    let changed = place_line(alloc, asked, prefix, sums, costs, seg, line)?;
+    let outcome = walk(alloc, asked, prefix, sums, costs, way, tree);
+    take_line_back(asked, prefix, changed.as_slice(), sums, costs, seg);
     if !outcome? {
         return Ok(false);
     }

@@ -1,41 +1,58 @@
--- Children of a split, one more at the end.
-use Rattle.std.proofs.Common.{◌≡◌, ℕ, suc, ◌≤◌, Bool, true, false, ◌||◌, ◌==◌, true≢false, List, [], ◌∷◌, ◌++◌, refl, ap, sym, ◌∙◌, append_assoc, arith}
+-- Cases of a split, one more behind them.
+use Rattle.std.proofs.Common.{◌≡◌, ℕ, suc, ◌≤◌, ℤ, Bool, true, false, ◌||◌, ◌==◌, true≢false, List, [], ◌∷◌, ◌++◌, Vec, Global, refl, ap, sym, ◌∙◌, append_assoc, arith}
 use Rattle.std.proofs.lemmas.Bool.{eqb-true, eq-eqb}
 use Rattle.std.proofs.lemmas.List.{append-nil}
+use Rattle.map_base.specs.declared.ids.SegId.{SegId}
 use Rattle.map_base.specs.declared.ids.LineId.{LineId}
-use Rattle.order_proof.specs.declared.tree.Tree.{Tree}
-use Rattle.order_proof.specs.Plain.{plain, plain_children}
+use Rattle.order_proof.specs.declared.tree.Tree.{Tree, Split, Close}
+use Rattle.order_proof.specs.Plain.{PlainTree, split, Cases, no_case, case_of, plain, plain_children}
 use Rattle.order_proof.specs.Trees.{depth_of, depth_of_cases, count_of, lines_of, is_among, AreDistinct}
 use Rattle.order_proof.specs.Lines.{line_text, take_line}
 use Rattle.order_proof.specs.Text.{tree_text, cases_text}
 use Rattle.order_proof.specs.Forms.{most_id}
 use Rattle.order_proof.specs.Ranges.{IsTreeInRange, AreCasesInRange}
+use Rattle.order_proof.specs.Begun.{cases_in, with_cases, with_case}
+use Rattle.order_proof.proofs.Views.{plain-Split, plain-Close}
 
-abbrev pub Child : Type 0
-Child = LineId × Tree
+pub children_push : (cs : List (LineId × Tree)) (a : LineId) (t : Tree) → plain_children (cs ++ (a, t) ∷ []) ≡ with_case (plain_children cs) a (plain t)
+children_push [] a t = refl
+children_push (c ∷ cs) a t = ap (case_of c.0 (plain c.1)) (children_push cs a t)
 
-pub count_push : (cs : List Child) (c : Child) → count_of (plain_children (cs ++ c ∷ [])) ≡ suc (count_of (plain_children cs))
-count_push [] c = refl
-count_push (b ∷ cs) c = ap suc (count_push cs c)
+-- a case more of a closed tree is none, and of a split one behind the others
+pub pushed_closed : (tree : Tree) (prices : List (ℕ × ℤ)) (cases : Cases) → tree ≡ Close prices → plain tree ≡ with_cases (plain tree) cases
+pushed_closed tree prices cases is =
+    let closed = ap plain is ∙ plain-Close prices in
+    closed ∙ sym (ap (λ (t : PlainTree). with_cases t cases) closed)
 
-pub lines_push : (cs : List Child) (c : Child) → lines_of (plain_children (cs ++ c ∷ [])) ≡ lines_of (plain_children cs) ++ c.0 ∷ []
-lines_push [] c = refl
-lines_push (b ∷ cs) c = ap (λ (ls : List LineId). b.0 ∷ ls) (lines_push cs c)
+pub pushed_split : (old new : Tree) (seg : SegId) (children more : Vec (LineId × Tree) Global) (a : LineId) (t u : Tree) (before : List (LineId × Tree)) → old ≡ Split seg children
+    → more.items ≡ before ++ (a, u) ∷ [] → u ≡ t → before ≡ children.items → new ≡ Split seg more → plain new ≡ with_cases (plain old) (with_case (cases_in (plain old)) a (plain t))
+pushed_split old new seg children more a t u before was pushed is same made =
+    ap plain made ∙ plain-Split seg more
+    ∙ ap (split seg) (ap plain_children (pushed ∙ ap (λ (v : Tree). before ++ (a, v) ∷ []) is ∙ ap (λ (cs : List (LineId × Tree)). cs ++ (a, t) ∷ []) same) ∙ children_push children.items a t)
+    ∙ sym (ap (λ (p : PlainTree). with_cases p (with_case (cases_in p) a (plain t))) (ap plain was ∙ plain-Split seg children))
 
-pub text_push : (cs : List Child) (c : Child) → cases_text (plain_children (cs ++ c ∷ [])) ≡ cases_text (plain_children cs) ++ (line_text (take_line c.0) ++ tree_text (plain c.1))
-text_push [] c = ap (λ (bytes : List ℕ). line_text (take_line c.0) ++ bytes) (append-nil (tree_text (plain c.1)))
-text_push (b ∷ cs) c =
-    ap (λ (bytes : List ℕ). line_text (take_line b.0) ++ (tree_text (plain b.1) ++ bytes)) (text_push cs c)
-    ∙ ap (λ (bytes : List ℕ). line_text (take_line b.0) ++ bytes) (sym (append_assoc (tree_text (plain b.1)) (cases_text (plain_children cs)) (line_text (take_line c.0) ++ tree_text (plain c.1))))
-    ∙ sym (append_assoc (line_text (take_line b.0)) (tree_text (plain b.1) ++ cases_text (plain_children cs)) (line_text (take_line c.0) ++ tree_text (plain c.1)))
+pub count_push : (cs : Cases) (a : LineId) (t : PlainTree) → count_of (with_case cs a t) ≡ suc (count_of cs)
+count_push no_case a t = refl
+count_push (case_of b u cs) a t = ap suc (count_push cs a t)
 
-pub range_push : (cs : List Child) (c : Child) → AreCasesInRange (plain_children cs) → c.0.0 ≤ most_id → IsTreeInRange (plain c.1) → AreCasesInRange (plain_children (cs ++ c ∷ []))
-range_push [] c cases line tree = (line, tree, tt)
-range_push (b ∷ cs) c cases line tree = (cases.0, cases.1, range_push cs c cases.2 line tree)
+pub lines_push : (cs : Cases) (a : LineId) (t : PlainTree) → lines_of (with_case cs a t) ≡ lines_of cs ++ a ∷ []
+lines_push no_case a t = refl
+lines_push (case_of b u cs) a t = ap (λ (ls : List LineId). b ∷ ls) (lines_push cs a t)
 
-pub depth_push : (room : ℕ) (cs : List Child) (c : Child) → depth_of_cases (plain_children cs) ≤ room → depth_of (plain c.1) ≤ room → depth_of_cases (plain_children (cs ++ c ∷ [])) ≤ room
-depth_push room [] c cases tree = omega arith
-depth_push room (b ∷ cs) c cases tree = omega (arith, depth_push room cs c (omega arith) tree)
+pub text_push : (cs : Cases) (a : LineId) (t : PlainTree) → cases_text (with_case cs a t) ≡ cases_text cs ++ (line_text (take_line a) ++ tree_text t)
+text_push no_case a t = ap (λ (bytes : List ℕ). line_text (take_line a) ++ bytes) (append-nil (tree_text t))
+text_push (case_of b u cs) a t =
+    ap (λ (bytes : List ℕ). line_text (take_line b) ++ (tree_text u ++ bytes)) (text_push cs a t)
+    ∙ ap (λ (bytes : List ℕ). line_text (take_line b) ++ bytes) (sym (append_assoc (tree_text u) (cases_text cs) (line_text (take_line a) ++ tree_text t)))
+    ∙ sym (append_assoc (line_text (take_line b)) (tree_text u ++ cases_text cs) (line_text (take_line a) ++ tree_text t))
+
+pub range_push : (cs : Cases) (a : LineId) (t : PlainTree) → AreCasesInRange cs → a.0 ≤ most_id → IsTreeInRange t → AreCasesInRange (with_case cs a t)
+range_push no_case a t cases line tree = (line, tree, tt)
+range_push (case_of b u cs) a t cases line tree = (cases.0, cases.1, range_push cs a t cases.2 line tree)
+
+pub depth_push : (room : ℕ) (cs : Cases) (a : LineId) (t : PlainTree) → depth_of_cases cs ≤ room → depth_of t ≤ room → depth_of_cases (with_case cs a t) ≤ room
+depth_push room no_case a t cases tree = omega arith
+depth_push room (case_of b u cs) a t cases tree = omega (arith, depth_push room cs a t (omega arith) tree)
 
 or_parts : (a b : Bool) → (a || b) ≡ false → (a ≡ false) × (b ≡ false)
 or_parts true b e = absurd cc

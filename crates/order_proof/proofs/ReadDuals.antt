@@ -4,7 +4,7 @@ use Rattle.std.specs.Option.{option_and_then}
 use Rattle.std.proofs.lemmas.List.{append-nil}
 use Rattle.map_base.specs.declared.ids.SegId.{SegId}
 use Rattle.map_base.specs.declared.ids.LineId.{LineId}
-use Rattle.order_values.specs.DualTrees.{PlainDual, fork, stop}
+use Rattle.order_values.specs.DualTrees.{PlainDual, fork, stop, fork_depth}
 use Rattle.order_proof.specs.declared.line_word.LineWord.{LineWord}
 use Rattle.order_proof.specs.declared.dual_line.DualLine.{DualLine}
 use Rattle.order_proof.specs.declared.dual_line.DualLine.TheVariants as duals
@@ -15,6 +15,7 @@ use Rattle.order_proof.specs.Forms.{dual_in}
 use Rattle.order_proof.specs.Text.{dual_text}
 use Rattle.order_proof.specs.Reading.{Due, APartTree, ATree, ADual, after, dual_due, go_on, reading}
 use Rattle.order_proof.specs.Readers.{IsDualOf}
+use Rattle.order_proof.specs.Begun.{first_line}
 use Rattle.order_proof.proofs.Fronts.{said, front_map, front_is}
 use Rattle.order_proof.proofs.LineLemmas.{begins_by_line}
 use Rattle.decimal_text.proofs.Steps.{then_read}
@@ -73,6 +74,12 @@ fork_tree room text e a b behind first second middle rest there one two =
           (one.front ∙ ap (λ (bytes : List ℕ). dual_text first ++ bytes) two.front ∙ sym (append_assoc (dual_text first) (dual_text second) rest))
           ∙ sym (append_assoc line (dual_text first ++ dual_text second) rest);
     }
+
+-- a tree that its first line makes whole
+pub whole_dual : (room : ℕ) (tree : PlainDual) (text rest : List ℕ) → fork_depth tree ≡ 0 → front (dual_in room) text ≡ Some (first_line tree, rest)
+    → (reading (ADual room ∷ []) text ≡ Ok rest) × IsDualOf room tree text rest
+whole_dual room (stop prices) text rest none there = (stop_read room text prices rest there, stop_tree room text prices rest there)
+whole_dual room (fork e a b first second) text rest none there = absurd (omega (arith, none))
 
 -- ---- which kind of tree stands at the front
 

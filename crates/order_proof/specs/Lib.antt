@@ -7,3 +7,4 @@ pub mod Forms
 pub mod Reading
 pub mod Ranges
 pub mod Readers
+pub mod Begun

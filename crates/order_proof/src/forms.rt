@@ -3,13 +3,16 @@
 ghost use Rattle.std.specs.Prelude.{◌≡◌, ◌≤◌, ◌<◌, ◌^◌, ◌-◌, ◌∷◌, pos, length, slice_index_or, option_map, IfOk, IfSome};
 ghost use Rattle.decimal_text.specs.Numbers.{natural_within, from_to};
 ghost use Rattle.order_values.specs.PriceLists.{AreRisingPrices};
-ghost use Rattle.order_proof.specs.Trees.{is_among};
+ghost use Rattle.order_proof.specs.Plain.{plain, plain_children};
+ghost use Rattle.order_proof.specs.Trees.{lines_of, is_among};
+ghost use Rattle.order_proof.specs.Begun.{cases_in};
 ghost use Rattle.order_proof.specs.declared.line_word.LineWord.TheVariants.{Divide, Close};
 ghost use Rattle.order_proof.specs.Forms.{seg, line_id, rising, price_of, priced_term, prices_from, counts, flag_of, rules_in, merge_with, split_with, rule_in, parts_in, part_in, node_in, take_in};
 
 use crate::line_word::LineWord;
 use crate::node_line::NodeLine;
 use crate::price_forms::counted_prices;
+use crate::tree::Tree;
 use decimal_text::{from_to, natural_within};
 use map_base::{LineId, NoMemory, SegId, Sequence};
 use order_values::{Prices, Rule};
@@ -192,26 +195,37 @@ pub(crate) fn node_in(
     }
 }
 
-/// Whether a line is one of these. All of them are looked at, since a loop with no way out compares several at once.
+/// Whether a line is that of one of these cases. All of them are looked at, since a loop with no way out compares several
+/// at once.
 #[tactic(auto, using(std::proofs::lemmas::List::at_drop_more))]
-fn is_among(lines: &[LineId], line: LineId) -> bool
-    ensures { result ≡ is_among lines.now line }
+fn is_among(children: &[(LineId, Tree)], line: LineId) -> bool
+    ensures { result ≡ is_among (lines_of (plain_children children.now)) line }
 {
     let mut among = false;
-    for other in lines {
-        among |= other.0 == line.0;
+    for other in children {
+        among |= other.0.0 == line.0;
     }
     among
 }
 
-/// The line of a case, where it is not taken yet.
-pub(crate) fn take_in(taken: &[LineId], word: LineWord, numbers: &[i64]) -> Option<LineId>
-    ensures { result ≡ take_in taken.now word numbers.now }
+/// Whether a case of a tree has this line.
+fn is_taken(tree: &Tree, line: LineId) -> bool
+    ensures { result ≡ is_among (lines_of (cases_in (plain tree.now))) line }
+{
+    match tree {
+        Tree::Close { .. } => false,
+        Tree::Split { children, .. } => is_among(children.as_slice(), line),
+    }
+}
+
+/// The line of a case, where no case of the tree has it yet.
+pub(crate) fn take_in(tree: &Tree, word: LineWord, numbers: &[i64]) -> Option<LineId>
+    ensures { result ≡ take_in (lines_of (cases_in (plain tree.now))) word numbers.now }
 {
     match (word, numbers) {
         (LineWord::Take, [line]) => {
             let line = LineId(id_of(*line)?);
-            if is_among(taken, line) {
+            if is_taken(tree, line) {
                 None
             } else {
                 Some(line)

@@ -1,13 +1,16 @@
-//! Reading a proof from the front of a text. The lines of a tree are read, and its cases put in place, by functions that
-//! are not merged into those that go down the tree, so that a level takes little of the stack.
+//! Reading a proof from the front of a text. The lines of a tree are read, its cases put in place, and what is read of it
+//! dropped where it stops, by functions that are not merged into those that go down the tree, so that a level takes little
+//! of the stack.
 
-ghost use Rattle.std.specs.Prelude.{◌≡◌, ◌≤◌, ◌<◌, ◌∷◌, ◌++◌, [], map, IfOk, OnOk};
-ghost use Rattle.order_proof.specs.Plain.{plain, plain_children, plain_part_tree, plain_part, plain_proof};
+ghost use Rattle.std.specs.Prelude.{◌≡◌, ◌<◌, ◌-◌, ◌∷◌, [], map, IfOk, OnOk};
+ghost use Rattle.order_proof.specs.Plain.{plain, plain_part_tree, plain_part, plain_proof};
+ghost use Rattle.order_proof.specs.Trees.{lines_of};
+ghost use Rattle.order_proof.specs.Begun.{cases_in, with_cases, with_case, begins_with, IsBegun, HasCasesOf};
 ghost use Rattle.order_proof.specs.FrontLine.{front};
 ghost use Rattle.order_proof.specs.Forms.{rules_in, rule_in, parts_in, part_in, node_in, take_in};
 ghost use Rattle.order_proof.specs.Reading.{RuleCount, APartTree, ATree, APart, rules_due, cases_due, parts_due, reading, proof_end};
 ghost use Rattle.decimal_text.specs.Readers.{IsRead, Follows, EndsAs};
-ghost use Rattle.order_proof.specs.Readers.{AreRulesOf, IsTreeOf, AreCasesOf, IsPartTreeOf, IsPartOf, ArePartsOf, IsProofOf, IsTextOf};
+ghost use Rattle.order_proof.specs.Readers.{AreRulesOf, IsTreeOf, IsPartTreeOf, IsPartOf, ArePartsOf, IsProofOf, IsTextOf};
 
 use crate::dual_reading::read_dual;
 use crate::forms::{node_in, part_in, parts_in, rule_in, rules_in, take_in};
@@ -82,7 +85,6 @@ fn read_part_head<'a>(
 
 /// The line of a node of a tree.
 #[tactic(auto, unfolding(crate::specs::FrontLine::front))]
-#[inline(never)]
 fn read_node<'a>(
     alloc: Global,
     room: u32,
@@ -98,18 +100,49 @@ fn read_node<'a>(
     }
 }
 
-/// The line of a case, with a line that is not taken yet.
+/// A tree of which the first line is read, with how many cases follow: none of a closed one.
+fn begun(alloc: Global, node: NodeLine) -> (Tree, u32)
+    ensures line { begins_with result.1 (plain result.0) ≡ node }
+    ensures begun { IsBegun result.1 (plain result.0) }
+{
+    match node {
+        NodeLine::Close { prices } => (Tree::Close { prices }, 0),
+        NodeLine::Split { seg, count } => {
+            let children = Vec::new(alloc);
+            (Tree::Split { seg, children }, count)
+        }
+    }
+}
+
+/// The first line of a tree: the tree without its cases, and how many follow.
+#[inline(never)]
+fn read_start<'a>(
+    alloc: Global,
+    room: u32,
+    text: &'a [u8],
+    numbers: &mut Vec<i64>,
+) -> Result<(Box<Tree>, u32, &'a [u8]), Stop>
+    ensures line { IsRead (λ x. (begins_with x.1 (plain x.0.value), x.2.now)) result text.now (front (node_in room) text.now) }
+    ensures begun { IfOk result (λ x. IsBegun x.1 (plain x.0.value)) }
+{
+    let (node, rest) = read_node(alloc, room, text, numbers)?;
+    let start = begun(alloc, node);
+    let tree = Box::new(alloc, start.0)?;
+    Ok((tree, start.1, rest))
+}
+
+/// The line of a case, with a line that no case of the tree has yet.
 #[tactic(auto, unfolding(crate::specs::FrontLine::front))]
 #[inline(never)]
 fn read_take<'a>(
-    taken: &[LineId],
+    tree: &Tree,
     text: &'a [u8],
     numbers: &mut Vec<i64>,
 ) -> Result<(LineId, &'a [u8]), Stop>
-    ensures { IsRead (λ x. (x.0, x.1.now)) result text.now (front (take_in taken.now) text.now) }
+    ensures { IsRead (λ x. (x.0, x.1.now)) result text.now (front (take_in (lines_of (cases_in (plain tree.now)))) text.now) }
 {
     let (word, rest) = read_line(text, numbers)?;
-    match take_in(taken, word, numbers.as_slice()) {
+    match take_in(tree, word, numbers.as_slice()) {
         Some(line) => Ok((line, rest)),
         None => Err(Stop::Wrong(text.len())),
     }
@@ -142,58 +175,65 @@ fn read_tree<'a>(
     room: u32,
     text: &'a [u8],
     numbers: &mut Vec<i64>,
-) -> Result<(Tree, &'a [u8]), Stop>
+) -> Result<(Box<Tree>, &'a [u8]), Stop>
     ensures follows { Follows (λ x. x.1.now) result (reading (ATree room ∷ []) text.now) }
-    ensures tree { IfOk result (λ x. IsTreeOf room (plain x.0) text.now x.1.now) }
+    ensures tree { IfOk result (λ x. IsTreeOf room (plain x.0.value) text.now x.1.now) }
 {
-    let (node, rest) = read_node(alloc, room, text, numbers)?;
-    match node {
-        NodeLine::Close { prices } => Ok((Tree::Close { prices }, rest)),
-        NodeLine::Split { seg, count } => {
-            let (children, rest) = read_children(alloc, room - 1, count, rest, numbers)?;
-            Ok((Tree::Split { seg, children }, rest))
-        }
+    let (start, count, rest) = read_start(alloc, room, text, numbers)?;
+    let mut tree = start;
+    match read_cases(alloc, room, count, &mut *tree, rest, numbers) {
+        Ok(rest) => Ok((tree, rest)),
+        Err(stop) => Err(given_up(tree, stop)),
     }
 }
 
-/// So many cases of a split, of different lines, each with its tree.
+/// Where reading stopped, without what was read.
+#[inline(never)]
+fn given_up(tree: Box<Tree>, stop: Stop) -> Stop
+    ensures { result ≡ stop }
+{
+    drop(tree);
+    stop
+}
+
+/// So many cases of a tree that has none yet, of different lines, each with its tree.
 #[cycle(tree_reading)]
-fn read_children<'a>(
+fn read_cases<'a>(
     alloc: Global,
     room: u32,
     count: u32,
+    tree: &mut Tree,
     text: &'a [u8],
     numbers: &mut Vec<i64>,
-) -> Result<(Vec<(LineId, Tree)>, &'a [u8]), Stop>
-    ensures follows { Follows (λ x. x.1.now) result (reading (cases_due count [] room) text.now) }
-    ensures cases { IfOk result (λ x. AreCasesOf room count (plain_children x.0.items) text.now x.1.now) }
+) -> Result<&'a [u8], Stop>
+    requires begun { IsBegun count (plain tree.old) }
+    requires room { 0 < count → 0 < room }
+    ensures follows { Follows (λ rest. rest.now) result (reading (cases_due count [] (room - 1)) text.now) }
+    ensures cases { IfOk result (λ rest. HasCasesOf (room - 1) count (plain tree.old) (plain tree.new) text.now rest.now) }
 {
-    let mut taken = Vec::new(alloc);
-    let mut children = Vec::new(alloc);
     let mut rest = text;
     for _ in 0..count {
-        let (line, behind) = read_take(taken.as_slice(), rest, numbers)?;
-        let (tree, behind) = read_tree(alloc, room, behind, numbers)?;
-        push_case(&mut taken, &mut children, line, tree)?;
+        let (line, behind) = read_take(tree, rest, numbers)?;
+        let (child, behind) = read_tree(alloc, room - 1, behind, numbers)?;
+        push_case(tree, line, child)?;
         rest = behind;
     }
-    Ok((children, rest))
+    Ok(rest)
 }
 
-/// Puts a case behind the others, and its line behind those that are taken.
+/// Puts a case behind the others of a split.
 #[inline(never)]
-fn push_case(
-    taken: &mut Vec<LineId>,
-    children: &mut Vec<(LineId, Tree)>,
-    line: LineId,
-    tree: Tree,
-) -> Result<(), NoMemory>
-    ensures taken { OnOk result (taken.new.items ≡ taken.old.items ++ line ∷ []) }
-    ensures children { OnOk result (children.new.items ≡ children.old.items ++ (line, tree) ∷ []) }
+fn push_case(tree: &mut Tree, line: LineId, child: Box<Tree>) -> Result<(), NoMemory>
+    ensures { OnOk result (plain tree.new ≡ with_cases (plain tree.old)
+        (with_case (cases_in (plain tree.old)) line (plain child.value))) }
 {
-    taken.push(line)?;
-    children.push((line, tree))?;
-    Ok(())
+    match tree {
+        Tree::Close { .. } => Ok(()),
+        Tree::Split { children, .. } => {
+            children.push((line, Box::into_inner(child)))?;
+            Ok(())
+        }
+    }
 }
 
 /// A part's tree. Its first line decides of which kind it is.
@@ -207,10 +247,10 @@ fn read_part_tree<'a>(
 {
     if begins_dual(text) {
         let (tree, rest) = read_dual(alloc, MOST_DEPTH, text, numbers)?;
-        Ok((PartTree::ByPairs(tree), rest))
+        Ok((PartTree::ByPairs(Box::into_inner(tree)), rest))
     } else {
         let (tree, rest) = read_tree(alloc, MOST_DEPTH, text, numbers)?;
-        Ok((PartTree::ByCases(tree), rest))
+        Ok((PartTree::ByCases(Box::into_inner(tree)), rest))
     }
 }
 

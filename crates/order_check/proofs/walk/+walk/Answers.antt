@@ -14,10 +14,9 @@ use Rattle.order_check.specs.Asking.{question_of}
 use Rattle.order_check.specs.Children.{child_lines}
 use Rattle.order_check.specs.declared.slot.PartTerm.{PartTerm}
 use Rattle.order_check.specs.Placings.{placing_of, changes}
-use Rattle.order_model.specs.Completions.{placed_more}
 use Rattle.order_check.specs.Counting.{placed_less, IsTallyWithout}
 use Rattle.order_check.specs.Walking.{IsWalked, split_test}
-use Rattle.order_check.proofs.Tallies.{without_placed, without_back, case_those, case_tally}
+use Rattle.order_check.proofs.Tallies.{without_back, case_those}
 use Rattle.order_check.proofs.Walks.{distinct_children, child_is_tree, split_walked, not_split_walked, case_next, of_part, case_refused, cases_passed, case_restored, chosen_walked}
 use Rattle.order_check.proofs.walk.+walk.Goals as goal
 
@@ -36,23 +35,23 @@ walk-returns-in-Split-clause-walked t c =
 pub walk_case-returns-in_err-outcome-clause-placed : goal.walk_case-returns-in_err-outcome-clause-placed
 walk_case-returns-in_err-outcome-clause-placed t c =
     let s = c.args.seg in
-    case_restored c.args.asked.now.problem.now.segs c.args.prefix.now.placed c.place_line-after.new.prefix.placed c.walk-outcome.new.prefix.placed c.take_line_back-same.new.prefix.placed s c.args.line
+    case_restored c.args.asked.now.problem.now.segs c.args.prefix.now.placed c.place_line.new.prefix.placed c.walk-outcome.new.prefix.placed c.take_line_back.new.prefix.placed s c.args.line
     (omega (arith, c.requires.seg, c.requires.fits.each)) (rising_at c.args.asked.now.problem.now.segs s.0 c.requires.asked.problem.rising) (c.requires.fits.lines s.0 c.requires.seg)
-    c.place_line-after.ensures.placed c.walk-outcome.ensures.placed c.take_line_back-same.ensures.placed
+    c.in_ok-changed.ensures.placed c.walk-outcome.ensures.placed c.take_line_back.ensures.placed
 
 pub walk_case-returns-then-not-branch-clause-placed : goal.walk_case-returns-then-not-branch-clause-placed
 walk_case-returns-then-not-branch-clause-placed t c =
     let s = c.args.seg in
-    case_restored c.args.asked.now.problem.now.segs c.args.prefix.now.placed c.place_line-after.new.prefix.placed c.walk-outcome.new.prefix.placed c.take_line_back-same.new.prefix.placed s c.args.line
+    case_restored c.args.asked.now.problem.now.segs c.args.prefix.now.placed c.place_line.new.prefix.placed c.walk-outcome.new.prefix.placed c.take_line_back.new.prefix.placed s c.args.line
     (omega (arith, c.requires.seg, c.requires.fits.each)) (rising_at c.args.asked.now.problem.now.segs s.0 c.requires.asked.problem.rising) (c.requires.fits.lines s.0 c.requires.seg)
-    c.place_line-after.ensures.placed c.walk-outcome.ensures.placed c.take_line_back-same.ensures.placed
+    c.in_ok-changed.ensures.placed c.walk-outcome.ensures.placed c.take_line_back.ensures.placed
 
 pub walk_case-returns-clause-placed : goal.walk_case-returns-clause-placed
 walk_case-returns-clause-placed t c =
     let s = c.args.seg in
-    case_restored c.args.asked.now.problem.now.segs c.args.prefix.now.placed c.place_line-after.new.prefix.placed c.walk-outcome.new.prefix.placed c.take_line_back-same.new.prefix.placed s c.args.line
+    case_restored c.args.asked.now.problem.now.segs c.args.prefix.now.placed c.place_line.new.prefix.placed c.walk-outcome.new.prefix.placed c.take_line_back.new.prefix.placed s c.args.line
     (omega (arith, c.requires.seg, c.requires.fits.each)) (rising_at c.args.asked.now.problem.now.segs s.0 c.requires.asked.problem.rising) (c.requires.fits.lines s.0 c.requires.seg)
-    c.place_line-after.ensures.placed c.walk-outcome.ensures.placed c.take_line_back-same.ensures.placed
+    c.in_ok-changed.ensures.placed c.walk-outcome.ensures.placed c.take_line_back.ensures.placed
 
 pub walk_split-returns-then-not-is_split-clause-walked : goal.walk_split-returns-then-not-is_split-clause-walked
 walk_split-returns-then-not-is_split-clause-walked t c =
@@ -62,10 +61,10 @@ walk_split-returns-then-not-is_split-clause-walked t c =
 pub walk_split-is_split-requires-clause-distinct : goal.walk_split-is_split-requires-clause-distinct
 walk_split-is_split-requires-clause-distinct t c = distinct_children c.args.seg c.args.children.now c.requires.tree
 
-pub walk_cases-walk_case-requires : goal.walk_cases-walk_case-requires
-walk_cases-walk_case-requires t c =
+pub walk_split-walk_case-requires : goal.walk_split-walk_case-requires
+walk_split-walk_case-requires t c =
     let q : Question = question_of c.args.asked.now in
-    let holds : split_test q c.args.prefix.now.placed c.args.seg (child_lines c.args.children.now) ≡ true = c.requires.holds in
+    let holds : split_test q c.args.prefix.now.placed c.args.seg (child_lines c.args.children.now) ≡ true = sym c.is_split.ensures ∙ c.if-not-is_split.false in
     let next = case_next q c.args.prefix.now.placed c.args.seg c.args.children.now c.loop-child.child-index c.child-item.result holds c.loop-child-test.true in
     let child = c.child-item.result in
     let on = subst (λ (x : LineId × Tree). Contains (lines_on c.args.asked.now.problem.now.segs c.args.seg) x.0) (sym c.child-item.is) next.on in
@@ -85,104 +84,53 @@ walk_cases-walk_case-requires t c =
       ),
     )
 
-pub walk_cases-returns-then-not-branch-clause-walked : goal.walk_cases-returns-then-not-branch-clause-walked
-walk_cases-returns-then-not-branch-clause-walked t c =
+pub walk_split-returns-then-not-branch-clause-walked : goal.walk_split-returns-then-not-branch-clause-walked
+walk_split-returns-then-not-branch-clause-walked t c =
     let q : Question = question_of c.args.asked.now in
-    let holds : split_test q c.args.prefix.now.placed c.args.seg (child_lines c.args.children.now) ≡ true = c.requires.holds in
+    let holds : split_test q c.args.prefix.now.placed c.args.seg (child_lines c.args.children.now) ≡ true = sym c.is_split.ensures ∙ c.if-not-is_split.false in
     case_refused q c.args.prefix.now.placed c.loop-child.prefix.placed c.args.seg c.args.children.now c.loop-child.child-index c.child-item.result
     c.args.way.now.items c.loop-child.way.items c.walk_case.new.way.items c.in_ok-walk_case.field-0
     c.loop-child-test.true holds c.loop-child.invariant.3 c.child-item.is c.loop-child.invariant.1 c.loop-child.invariant.2 c.if-not-branch.true
     c.in_ok-walk_case.ensures.walked
 
-pub walk_cases-returns-clause-walked : goal.walk_cases-returns-clause-walked
-walk_cases-returns-clause-walked t c =
+pub walk_split-returns-clause-walked : goal.walk_split-returns-clause-walked
+walk_split-returns-clause-walked t c =
     let q : Question = question_of c.args.asked.now in
-    let holds : split_test q c.args.prefix.now.placed c.args.seg (child_lines c.args.children.now) ≡ true = c.requires.holds in
+    let holds : split_test q c.args.prefix.now.placed c.args.seg (child_lines c.args.children.now) ≡ true = sym c.is_split.ensures ∙ c.if-not-is_split.false in
     let way : IsWalked (failing q c.args.prefix.now.placed (split c.args.seg (plain_children c.args.children.now))) c.args.way.now.items c.args.way.now.items true =
     cases_passed q c.args.prefix.now.placed c.args.seg c.args.children.now c.loop-child.child-index c.args.way.now.items
     (omega (arith, c.loop-child-test.false)) holds c.loop-child.invariant.3 in
     (way.0, c.loop-child.invariant.2)
 
-pub walk_case-returns-in_err-outcome-clause-tally : goal.walk_case-returns-in_err-outcome-clause-tally
-walk_case-returns-in_err-outcome-clause-tally t c =
-    let s = c.args.seg in
-    let asked = c.args.asked.now in
-    let placed : List (List LineId) = c.args.prefix.now.placed in
-    case_tally asked placed c.take_line_back-same.new.prefix.placed c.args.sums c.take_line_back-same.result c.args.costs.now c.take_line_back-same.new.costs c.requires.tally c.take_line_back-same.ensures.tally
-    (omega (arith, c.place_line-after.auto.costs, c.walk-outcome.auto.costs, c.take_line_back-same.auto.costs))
-    (case_restored asked.problem.now.segs placed c.place_line-after.new.prefix.placed c.walk-outcome.new.prefix.placed c.take_line_back-same.new.prefix.placed s c.args.line
-    (omega (arith, c.requires.seg, c.requires.fits.each)) (rising_at asked.problem.now.segs s.0 c.requires.asked.problem.rising) (c.requires.fits.lines s.0 c.requires.seg)
-    c.place_line-after.ensures.placed c.walk-outcome.ensures.placed c.take_line_back-same.ensures.placed)
-
-pub walk_case-returns-then-not-branch-clause-tally : goal.walk_case-returns-then-not-branch-clause-tally
-walk_case-returns-then-not-branch-clause-tally t c =
-    let s = c.args.seg in
-    let asked = c.args.asked.now in
-    let placed : List (List LineId) = c.args.prefix.now.placed in
-    case_tally asked placed c.take_line_back-same.new.prefix.placed c.args.sums c.take_line_back-same.result c.args.costs.now c.take_line_back-same.new.costs c.requires.tally c.take_line_back-same.ensures.tally
-    (omega (arith, c.place_line-after.auto.costs, c.walk-outcome.auto.costs, c.take_line_back-same.auto.costs))
-    (case_restored asked.problem.now.segs placed c.place_line-after.new.prefix.placed c.walk-outcome.new.prefix.placed c.take_line_back-same.new.prefix.placed s c.args.line
-    (omega (arith, c.requires.seg, c.requires.fits.each)) (rising_at asked.problem.now.segs s.0 c.requires.asked.problem.rising) (c.requires.fits.lines s.0 c.requires.seg)
-    c.place_line-after.ensures.placed c.walk-outcome.ensures.placed c.take_line_back-same.ensures.placed)
-
-pub walk_case-returns-clause-tally : goal.walk_case-returns-clause-tally
-walk_case-returns-clause-tally t c =
-    let s = c.args.seg in
-    let asked = c.args.asked.now in
-    let placed : List (List LineId) = c.args.prefix.now.placed in
-    case_tally asked placed c.take_line_back-same.new.prefix.placed c.args.sums c.take_line_back-same.result c.args.costs.now c.take_line_back-same.new.costs c.requires.tally c.take_line_back-same.ensures.tally
-    (omega (arith, c.place_line-after.auto.costs, c.walk-outcome.auto.costs, c.take_line_back-same.auto.costs))
-    (case_restored asked.problem.now.segs placed c.place_line-after.new.prefix.placed c.walk-outcome.new.prefix.placed c.take_line_back-same.new.prefix.placed s c.args.line
-    (omega (arith, c.requires.seg, c.requires.fits.each)) (rising_at asked.problem.now.segs s.0 c.requires.asked.problem.rising) (c.requires.fits.lines s.0 c.requires.seg)
-    c.place_line-after.ensures.placed c.walk-outcome.ensures.placed c.take_line_back-same.ensures.placed)
-
 -- the terms that the placing may change are picked
-pub walk_case-place_line-after-requires-clause-picked : goal.walk_case-place_line-after-requires-clause-picked
-walk_case-place_line-after-requires-clause-picked t c =
+pub walk_case-take_line_back-requires-clause-picked : goal.walk_case-take_line_back-requires-clause-picked
+walk_case-take_line_back-requires-clause-picked t c =
     let asked = c.args.asked.now in
-    let those = case_those asked c.args.prefix.now.placed c.args.seg c.args.line c.placing_of-placing.result c.as_slice-some.result.now c.in_ok-changed.changed.items c.requires.asked c.placing_of-placing.ensures
-    c.in_ok-changed.ensures c.as_slice-some.ensures.value in
+    let those = case_those asked c.args.prefix.now.placed c.args.seg c.args.line (placing_of asked.problem.now.segs c.args.prefix.now.placed c.args.seg c.args.line) c.as_slice.result.now c.in_ok-changed.changed.items
+    c.requires.asked refl c.in_ok-changed.ensures.changed c.as_slice.ensures.value in
     (changes (placing_of asked.problem.now.segs c.args.prefix.now.placed c.args.seg c.args.line) (lines_on asked.problem.now.segs c.args.seg) (lines_on c.args.prefix.now.placed c.args.seg), those)
 
-pub walk_case-take_line_back-same-requires-clause-picked : goal.walk_case-take_line_back-same-requires-clause-picked
-walk_case-take_line_back-same-requires-clause-picked t c =
-    let asked = c.args.asked.now in
-    let those = case_those asked c.args.prefix.now.placed c.args.seg c.args.line c.placing_of-placing.result c.as_slice-some.result.now c.in_ok-changed.changed.items c.requires.asked c.placing_of-placing.ensures
-    c.in_ok-changed.ensures c.as_slice-some.ensures.value in
-    (changes (placing_of asked.problem.now.segs c.args.prefix.now.placed c.args.seg c.args.line) (lines_on asked.problem.now.segs c.args.seg) (lines_on c.args.prefix.now.placed c.args.seg), those)
-
--- the tally of the others, once the line is placed
-pub walk_case-place_line-after-requires-clause-same : goal.walk_case-place_line-after-requires-clause-same
-walk_case-place_line-after-requires-clause-same t c = λ sums costs without.
-    (let s = c.args.seg in
-    let asked = c.args.asked.now in
-    let placed : List (List LineId) = c.args.prefix.now.placed in
-    let those = case_those asked placed s c.args.line c.placing_of-placing.result c.as_slice-some.result.now c.in_ok-changed.changed.items c.requires.asked c.placing_of-placing.ensures
-    c.in_ok-changed.ensures c.as_slice-some.ensures.value in
-    without_placed s c.args.line asked placed (placed_more asked.problem.now.segs placed s c.args.line) c.requires.asked (omega (arith, c.requires.seg, c.requires.fits.each)) (c.requires.fits.lines s.0 c.requires.seg)
-    c.requires.line c.requires.unplaced refl c.as_slice-some.result.now sums costs those without)
-
--- and once it is taken back
-pub walk_case-take_line_back-same-requires-clause-same : goal.walk_case-take_line_back-same-requires-clause-same
-walk_case-take_line_back-same-requires-clause-same t c = λ sums costs without.
+-- the tally of the others, once the line is taken back
+pub walk_case-take_line_back-requires-clause-same : goal.walk_case-take_line_back-requires-clause-same
+walk_case-take_line_back-requires-clause-same t c = λ sums costs without.
     (let s = c.args.seg in
     let asked = c.args.asked.now in
     let segs : List (List LineId) = asked.problem.now.segs in
     let placed : List (List LineId) = c.args.prefix.now.placed in
     let walked : List (List LineId) = c.walk-outcome.new.prefix.placed in
-    let some : List PartTerm = c.as_slice-some.result.now in
+    let some : List PartTerm = c.as_slice.result.now in
     let known : s.0 < length placed = omega (arith, c.requires.seg, c.requires.fits.each) in
-    let those = case_those asked placed s c.args.line c.placing_of-placing.result some c.in_ok-changed.changed.items c.requires.asked c.placing_of-placing.ensures
-    c.in_ok-changed.ensures c.as_slice-some.ensures.value in
+    let those = case_those asked placed s c.args.line (placing_of segs placed s c.args.line) some c.in_ok-changed.changed.items c.requires.asked refl c.in_ok-changed.ensures.changed
+    c.as_slice.ensures.value in
     let there = subst (λ (l : List (List LineId)). IsTallyWithout some asked l sums costs) c.walk-outcome.ensures.placed without in
-    let here = without_back s c.args.line asked placed c.place_line-after.new.prefix.placed c.requires.asked known (c.requires.fits.lines s.0 c.requires.seg) c.requires.line c.requires.unplaced
-    c.place_line-after.ensures.placed some sums costs those there in
-    let restored = case_restored segs placed c.place_line-after.new.prefix.placed walked (placed_less segs walked s) s c.args.line known
-    (rising_at segs s.0 c.requires.asked.problem.rising) (c.requires.fits.lines s.0 c.requires.seg) c.place_line-after.ensures.placed c.walk-outcome.ensures.placed refl in
+    let here = without_back s c.args.line asked placed c.place_line.new.prefix.placed c.requires.asked known (c.requires.fits.lines s.0 c.requires.seg) c.requires.line c.requires.unplaced
+    c.in_ok-changed.ensures.placed some sums costs those there in
+    let restored = case_restored segs placed c.place_line.new.prefix.placed walked (placed_less segs walked s) s c.args.line known
+    (rising_at segs s.0 c.requires.asked.problem.rising) (c.requires.fits.lines s.0 c.requires.seg) c.in_ok-changed.ensures.placed c.walk-outcome.ensures.placed refl in
     subst (λ (l : List (List LineId)). IsTallyWithout some asked l sums costs) (sym restored) here)
 
-pub walk_case-take_line_back-same-requires-clause-some : goal.walk_case-take_line_back-same-requires-clause-some
-walk_case-take_line_back-same-requires-clause-some t c =
+pub walk_case-take_line_back-requires-clause-some : goal.walk_case-take_line_back-requires-clause-some
+walk_case-take_line_back-requires-clause-some t c =
     let s = c.args.seg in
-    chosen_walked c.args.asked.now.problem.now.segs c.args.prefix.now.placed c.place_line-after.new.prefix.placed c.walk-outcome.new.prefix.placed s c.args.line
-    (omega (arith, c.requires.seg, c.requires.fits.each)) (c.requires.fits.lines s.0 c.requires.seg) c.requires.line c.requires.unplaced c.place_line-after.ensures.placed c.walk-outcome.ensures.placed
+    chosen_walked c.args.asked.now.problem.now.segs c.args.prefix.now.placed c.place_line.new.prefix.placed c.walk-outcome.new.prefix.placed s c.args.line
+    (omega (arith, c.requires.seg, c.requires.fits.each)) (c.requires.fits.lines s.0 c.requires.seg) c.requires.line c.requires.unplaced c.in_ok-changed.ensures.placed c.walk-outcome.ensures.placed

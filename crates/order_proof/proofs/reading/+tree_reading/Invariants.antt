@@ -1,12 +1,13 @@
-use Rattle.std.proofs.Common.{◌+◌, ◌*◌}
-use Rattle.order_proof.proofs.ReadTrees.{AreCasesSoFar}
+use Rattle.std.proofs.Common.{◌+◌, ◌-◌, ◌*◌}
+use Rattle.order_proof.specs.Plain.{plain}
+use Rattle.order_proof.proofs.ReadTrees.{HasCasesSoFar}
 use Rattle.order_proof.proofs.reading.+tree_reading.Given as goal
 
-abbrev pub decreases-read_children : goal.decreases-read_children
-decreases-read_children l = 2 * l.room + 1
+abbrev pub decreases-read_cases : goal.decreases-read_cases
+decreases-read_cases l = 2 * l.room
 
 abbrev pub decreases-read_tree : goal.decreases-read_tree
-decreases-read_tree l = 2 * l.room
+decreases-read_tree l = 2 * l.room + 1
 
-abbrev pub invariant-read_children-loop : goal.invariant-read_children-loop
-invariant-read_children-loop l = AreCasesSoFar l.room l.count l.counter l.taken.items l.children.items l.text l.rest
+abbrev pub invariant-read_cases-loop : goal.invariant-read_cases-loop
+invariant-read_cases-loop l = HasCasesSoFar (l.room - 1) l.count l.counter (plain l.fn.tree) (plain l.tree) l.text l.rest

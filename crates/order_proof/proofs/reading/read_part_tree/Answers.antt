@@ -1,6 +1,11 @@
-use Rattle.std.proofs.Common.{[], ◌∷◌, sym, ◌∙◌}
+use Rattle.std.proofs.Common.{[], ◌∷◌, subst, sym, ◌∙◌}
 use Rattle.std.proofs.lemmas.Result.{err_from_is_err_and}
+use Rattle.order_values.specs.declared.dual_tree.DualTree.{DualTree}
+use Rattle.order_values.specs.DualTrees.{plain_dual}
+use Rattle.order_proof.specs.declared.tree.Tree.{Tree}
+use Rattle.order_proof.specs.Plain.{by_cases, by_pairs, plain}
 use Rattle.order_proof.specs.Trees.{most_depth}
+use Rattle.order_proof.specs.Readers.{IsPartTreeOf}
 use Rattle.order_proof.specs.Reading.{APartTree, ATree, ADual, reading}
 use Rattle.decimal_text.proofs.Stops.{rest_stops}
 use Rattle.order_proof.proofs.ReadDuals.{dual_due_here, tree_due_here}
@@ -25,3 +30,13 @@ returns-in_ok-tree-clause-follows c = dual_due_here c.args.text.now (sym c.begin
 
 pub returns-in_ok-tree-2-clause-follows : goal.returns-in_ok-tree-2-clause-follows
 returns-in_ok-tree-2-clause-follows c = tree_due_here c.args.text.now (sym c.begins_dual.ensures ∙ c.if-begins_dual.false) ∙ c.in_ok-tree-2.ensures.follows
+
+pub returns-in_ok-tree-clause-tree : goal.returns-in_ok-tree-clause-tree
+returns-in_ok-tree-clause-tree c =
+    subst (λ (tree : DualTree). IsPartTreeOf (by_pairs (plain_dual tree)) c.args.text.now c.in_ok-tree.rest.now) (sym c.into_inner.ensures)
+    (record { range = c.in_ok-tree.ensures.tree.range; depth = c.in_ok-tree.ensures.tree.depth; front = c.in_ok-tree.ensures.tree.front })
+
+pub returns-in_ok-tree-2-clause-tree : goal.returns-in_ok-tree-2-clause-tree
+returns-in_ok-tree-2-clause-tree c =
+    subst (λ (tree : Tree). IsPartTreeOf (by_cases (plain tree)) c.args.text.now c.in_ok-tree-2.rest.now) (sym c.into_inner-else-begins_dual.ensures)
+    (record { range = c.in_ok-tree-2.ensures.tree.range; depth = c.in_ok-tree-2.ensures.tree.depth; front = c.in_ok-tree-2.ensures.tree.front })
