@@ -53,6 +53,7 @@ pub(crate) fn bad_row<R: Files + AllocGlobal + Clone + Drop>(
 }
 
 /// The lines for a row that is bad by its own table.
+#[inline(never)]
 fn in_table(
     alloc: Global,
     bad: BadRow,
@@ -235,6 +236,7 @@ fn sought_in<'a>(bad: BadRow, found: &'a FoundRow) -> Option<Sought<'a>> {
 }
 
 /// A row names what another table, or another row, doesn't have.
+#[inline(never)]
 fn unknown<R: Files + AllocGlobal>(
     rt: &R,
     feed: &str,

@@ -18,7 +18,9 @@ pub(crate) struct Folder {
     pub(crate) archives: Vec<Text>,
 }
 
-/// The bytes of a plain file; none where there is none at the path, or it can't be read.
+/// The bytes of a plain file; none where there is none at the path, or it can't be read. What the system's paths take of
+/// the stack is let go before the bytes are looked at.
+#[inline(never)]
 pub(crate) fn bytes_at<R: Files + AllocGlobal>(
     rt: &R,
     path: &str,

@@ -49,6 +49,7 @@ impl FoundRow {
 }
 
 /// The row of this number of a table, with its header: row 1 is the header itself. None where there is no such row.
+#[inline(never)]
 pub(crate) fn row_at(alloc: Global, bytes: &[u8], row: u64) -> Result<Option<FoundRow>, NoMemory> {
     let mut reader = row_reader_of(alloc, bytes)?;
     if row == 0 || !advance(&mut reader, 1)? {
@@ -94,6 +95,7 @@ pub(crate) struct Sought<'a> {
 }
 
 /// The number of the first row behind the header that has what is sought, before the row of this number.
+#[inline(never)]
 pub(crate) fn earlier_row(
     alloc: Global,
     bytes: &[u8],

@@ -21,6 +21,7 @@ pub(crate) fn ids_at<R: Files + AllocGlobal>(
 }
 
 /// The same of the bytes of a table.
+#[inline(never)]
 fn ids_in(alloc: Global, bytes: &[u8], name: &str) -> Result<Vec<Text>, NoMemory> {
     let rows = rows_of(alloc, bytes)?;
     let mut ids = Vec::new(alloc);
