@@ -11,7 +11,7 @@ ghost use Rattle.run_status.specs.Following.{Follows, Gives};
 ghost use Rattle.map_commands.specs.Promises.{SearchesParts};
 ghost use Rattle.map_commands.specs.ImproveWorks.{improve_work, improved_at, improved_outputs, AreOfImproved};
 
-use crate::improved_outputs::write_improved;
+use crate::improve_outputs::write_improved;
 use command_inputs::{Inputs, Loaded, load};
 use command_paths::MapFiles;
 use command_run::Output;

@@ -5,7 +5,7 @@
 mod check_command;
 mod import_command;
 mod improve_command;
-mod improved_outputs;
+mod improve_outputs;
 mod make_command;
 mod outputs;
 
