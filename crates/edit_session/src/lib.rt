@@ -6,8 +6,8 @@
 //!
 //! What each draw of a script appends to the output are those bytes, or the line of its refusal, after which the script
 //! goes on. The script ends at its first line that is neither a draw nor an edit that may come there; what was drawn
-//! before it stays. Each draw is written as soon as it is made, so no more than one is ever held, and what stands in the
-//! output is at each moment a beginning of the text of all draws.
+//! before it stays. Each draw is written as soon as it is made, so no more than one is ever held, and what stands in
+//! the output is at each moment a beginning of the text of all draws.
 #![tactic(auto)]
 
 mod drawn;
