@@ -27,7 +27,7 @@ pub struct Network {
 }
 
 /// The stations of a network that lie far from all others.
-#[derive(Clone, Copy, Debug)]
+#[derive(Clone, Copy)]
 pub struct FarOff {
     /// How many there are.
     pub count: usize,

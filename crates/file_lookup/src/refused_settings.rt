@@ -9,7 +9,7 @@ use std::alloc::Global;
 use std::rt::Files;
 
 /// Where a text of settings stands.
-#[derive(Clone, Copy, Debug)]
+#[derive(Clone, Copy)]
 pub enum Source<'a> {
     /// In the file at this path.
     File(&'a str),
