@@ -1,6 +1,7 @@
 //! What lies at a path of the disk.
 
 use map_base::{NoMemory, Text};
+use message_texts::Found;
 use std::alloc::Global;
 use std::fs::File;
 use std::io::{ErrorKind, Read};
@@ -9,22 +10,19 @@ use std::{fs, io};
 
 /// What lies in a folder.
 #[derive(Drop)]
-pub(crate) struct Folder {
+pub struct Folder {
     /// The names of all that lies there, in their order.
-    pub(crate) names: Vec<Text>,
+    pub names: Vec<Text>,
     /// The names of the folders among it.
-    pub(crate) folders: Vec<Text>,
+    pub folders: Vec<Text>,
     /// The names of the archives among it.
-    pub(crate) archives: Vec<Text>,
+    pub archives: Vec<Text>,
 }
 
-/// The bytes of a plain file; none where there is none at the path, or it can't be read. What the system's paths take of
-/// the stack is let go before the bytes are looked at.
+/// The bytes of a plain file; none where there is none at the path, or it can't be read. What the system's paths take
+/// of the stack is let go before the bytes are looked at.
 #[inline(never)]
-pub(crate) fn bytes_at<R: Files + AllocGlobal>(
-    rt: &R,
-    path: &str,
-) -> Result<Option<Vec<u8>>, NoMemory> {
+pub fn bytes_at<R: Files + AllocGlobal>(rt: &R, path: &str) -> Result<Option<Vec<u8>>, NoMemory> {
     if !is_plain(rt, path) {
         return Ok(None);
     }
@@ -36,7 +34,7 @@ pub(crate) fn bytes_at<R: Files + AllocGlobal>(
 }
 
 /// Whether there is a plain file at a path: no folder, no pipe, no device.
-pub(crate) fn is_plain<R: Files>(rt: &R, path: &str) -> bool {
+pub fn is_plain<R: Files>(rt: &R, path: &str) -> bool {
     match fs::metadata(rt, path) {
         Ok(metadata) => metadata.is_file(),
         Err(_) => false,
@@ -44,7 +42,7 @@ pub(crate) fn is_plain<R: Files>(rt: &R, path: &str) -> bool {
 }
 
 /// Whether there is a folder at a path.
-pub(crate) fn is_folder<R: Files>(rt: &R, path: &str) -> bool {
+pub fn is_folder<R: Files>(rt: &R, path: &str) -> bool {
     match fs::metadata(rt, path) {
         Ok(metadata) => metadata.is_dir(),
         Err(_) => false,
@@ -52,7 +50,7 @@ pub(crate) fn is_folder<R: Files>(rt: &R, path: &str) -> bool {
 }
 
 /// Why the file at a path can't be read, if it can't.
-pub(crate) fn read_fault<R: Files>(rt: &R, path: &str) -> Option<io::Error> {
+pub fn read_fault<R: Files>(rt: &R, path: &str) -> Option<io::Error> {
     if !is_plain(rt, path) && !is_folder(rt, path) {
         return fs::metadata(rt, path).err();
     }
@@ -64,12 +62,12 @@ pub(crate) fn read_fault<R: Files>(rt: &R, path: &str) -> Option<io::Error> {
 }
 
 /// Whether the file at a path begins as an archive does (ZIP).
-pub(crate) fn is_archive<R: Files>(rt: &R, path: &str) -> bool {
+pub fn is_archive<R: Files>(rt: &R, path: &str) -> bool {
     begins_with(rt, path, b"PK\x03\x04".as_slice())
 }
 
 /// Whether the plain file at a path begins with these bytes, of which there are 64 at most.
-pub(crate) fn begins_with<R: Files>(rt: &R, path: &str, begin: &[u8]) -> bool {
+pub fn begins_with<R: Files>(rt: &R, path: &str, begin: &[u8]) -> bool {
     if !is_plain(rt, path) {
         return false;
     }
@@ -84,7 +82,7 @@ pub(crate) fn begins_with<R: Files>(rt: &R, path: &str, begin: &[u8]) -> bool {
 }
 
 /// What lies in the folder at a path, if there is one that can be read.
-pub(crate) fn folder_at<R: Files + AllocGlobal + Clone + Drop>(
+pub fn folder_at<R: Files + AllocGlobal + Clone + Drop>(
     rt: &R,
     path: &str,
 ) -> Result<Option<Folder>, NoMemory> {
@@ -140,4 +138,33 @@ fn names_in<R: Files + AllocGlobal + Clone + Drop>(
     }
     names.sort()?;
     Ok(Some(names))
+}
+
+/// What lies at a path that is no folder.
+pub fn found_file<R: Files>(rt: &R, path: &str) -> Found {
+    if is_plain(rt, path) {
+        Found::File {
+            is_zip: is_archive(rt, path),
+        }
+    } else {
+        Found::Nothing
+    }
+}
+
+/// The first folder of a folder that has the table.
+pub fn inner_with<'a, R: Files + AllocGlobal>(
+    rt: &R,
+    feed: &str,
+    name: &str,
+    folder: &'a Folder,
+) -> Result<Option<&'a str>, NoMemory> {
+    let alloc = rt.alloc();
+    for inner in &folder.folders {
+        let inner = inner.as_str();
+        let table = format!(in alloc; "{feed}/{inner}/{name}")?;
+        if is_plain(rt, table.as_str()) {
+            return Ok(Some(inner));
+        }
+    }
+    Ok(None)
 }

@@ -1,6 +1,6 @@
 //! The network of a feed, looked at again.
 
-use crate::lookup::{bytes_at, is_plain};
+use crate::paths::{bytes_at, is_plain};
 use command_inputs::{Inputs, load, path_of};
 use command_words::Command;
 use disk_door::DiskFiles;
@@ -8,7 +8,7 @@ use graph_core::{LineGraph, NodeKind};
 use graph_json::{Imported, JsonFault, read_graph};
 use line_graph::build;
 use map_base::{NoMemory, NodeId, Point, Sequence, Text};
-use message_texts::{far_stations, quoted};
+use message_texts::far_stations;
 use run_status::{Input, Refusal};
 use std::alloc::Global;
 use std::rt::Files;
@@ -17,16 +17,26 @@ use transit_feed::Tables;
 
 /// The line graph that a command works on.
 #[derive(Drop)]
-pub(crate) struct Network {
-    pub(crate) graph: LineGraph,
+pub struct Network {
+    /// The graph.
+    pub graph: LineGraph,
     /// What its stations are called.
-    names: Sequence<Text>,
-    /// What says where stations lie.
-    places: &'static str,
+    pub names: Sequence<Text>,
+    /// The fields of the files that say where stations lie.
+    pub places: &'static str,
+}
+
+/// The stations of a network that lie far from all others.
+#[derive(Clone, Copy)]
+pub struct FarOff {
+    /// How many there are.
+    pub count: usize,
+    /// The first of them.
+    pub first: NodeId,
 }
 
 /// The network of a command's inputs; none where they can't be read again, or are no plain files.
-pub(crate) fn network_of<R: Files + AllocGlobal>(
+pub fn network_of<R: Files + AllocGlobal>(
     rt: &R,
     command: &Command<'_>,
     inputs: &Inputs<'_>,
@@ -128,36 +138,21 @@ fn is_plain_at<R: Files + AllocGlobal>(
 }
 
 impl Network {
-    /// What a node is called; a junction has no name.
-    pub(crate) fn name(&self, alloc: Global, node: NodeId) -> Result<String, NoMemory> {
-        if node.0 >= self.graph.nodes() {
-            return Ok(String::new(alloc));
-        }
-        let NodeKind::Station(id) = self.graph.kind(node) else {
-            return Ok(String::from_str(alloc, "a junction")?);
-        };
-        match self.names.as_slice().get(id.0 as usize) {
-            Some(name) => quoted(alloc, name.as_str().as_bytes()),
-            None => Ok(String::new(alloc)),
-        }
-    }
-
-    /// A line for stations that lie far from all others; empty where there are none.
-    pub(crate) fn far_line(&self, alloc: Global) -> Result<String, NoMemory> {
+    /// The stations that lie far from all others, where there are any.
+    pub fn far_off(&self, alloc: Global) -> Result<Option<FarOff>, NoMemory> {
         let (nodes, points) = self.stations(alloc)?;
         let far = far_stations(alloc, points.as_slice())?;
-        let Some(first) = far.first() else {
-            return Ok(String::new(alloc));
-        };
-        let Some(node) = nodes.get(*first) else {
-            return Ok(String::new(alloc));
-        };
-        let name = self.name(alloc, *node)?;
         let count = far.len();
-        let places = self.places;
-        Ok(format!(in alloc;
-            "octimap: stations far from all others: {count}, the first is {name}; are their {places} right?\n"
-        )?)
+        let Some(place) = far.first() else {
+            return Ok(None);
+        };
+        match nodes.get(*place) {
+            Some(first) => Ok(Some(FarOff {
+                count,
+                first: *first,
+            })),
+            None => Ok(None),
+        }
     }
 
     /// The nodes that are stations, and where they lie.
@@ -172,5 +167,14 @@ impl Network {
             }
         }
         Ok((nodes, places))
+    }
+
+    /// How many segments meet at a node.
+    pub fn meeting(&self, node: NodeId) -> usize {
+        if node.0 < self.graph.nodes() {
+            self.graph.round(node).len()
+        } else {
+            0
+        }
     }
 }

@@ -10,14 +10,16 @@ use table_rows::row_reader_of;
 
 /// The fields of a header and of a row below it.
 #[derive(Drop)]
-pub(crate) struct FoundRow {
-    pub(crate) header: Vec<Vec<u8>>,
-    pub(crate) fields: Vec<Vec<u8>>,
+pub struct FoundRow {
+    /// The fields of the header.
+    pub header: Vec<Vec<u8>>,
+    /// The fields of the row.
+    pub fields: Vec<Vec<u8>>,
 }
 
 impl FoundRow {
     /// The place of the column of this name.
-    pub(crate) fn column(&self, name: &str) -> Option<usize> {
+    pub fn column(&self, name: &str) -> Option<usize> {
         for (place, cell) in self.header.iter().enumerate() {
             if trim_spaces(cell.as_slice()) == name.as_bytes() {
                 return Some(place);
@@ -27,7 +29,7 @@ impl FoundRow {
     }
 
     /// The field in the column of this name: empty where there is none.
-    pub(crate) fn field(&self, name: &str) -> &[u8] {
+    pub fn field(&self, name: &str) -> &[u8] {
         match self.column(name) {
             None => &[],
             Some(place) => match self.fields.get(place) {
@@ -38,7 +40,7 @@ impl FoundRow {
     }
 
     /// The names of the columns.
-    pub(crate) fn names(&self, alloc: Global) -> Result<Vec<Text>, NoMemory> {
+    pub fn names(&self, alloc: Global) -> Result<Vec<Text>, NoMemory> {
         let mut names = Vec::new(alloc);
         for cell in &self.header {
             let name = String::from_utf8_lossy(alloc, trim_spaces(cell.as_slice()))?;
@@ -50,7 +52,7 @@ impl FoundRow {
 
 /// The row of this number of a table, with its header: row 1 is the header itself. None where there is no such row.
 #[inline(never)]
-pub(crate) fn row_at(alloc: Global, bytes: &[u8], row: u64) -> Result<Option<FoundRow>, NoMemory> {
+pub fn row_at(alloc: Global, bytes: &[u8], row: u64) -> Result<Option<FoundRow>, NoMemory> {
     let mut reader = row_reader_of(alloc, bytes)?;
     if row == 0 || !advance(&mut reader, 1)? {
         return Ok(None);
@@ -87,16 +89,20 @@ fn fields_of(alloc: Global, row: &Row<'_>) -> Result<Vec<Vec<u8>>, NoMemory> {
 
 /// What is looked for in the rows above one: the id in a column, and the number in another, where one is told.
 #[derive(Clone, Copy)]
-pub(crate) struct Sought<'a> {
-    pub(crate) id_column: usize,
-    pub(crate) id: &'a [u8],
-    pub(crate) number_column: Option<usize>,
-    pub(crate) number: Option<u32>,
+pub struct Sought<'a> {
+    /// The place of the id's column.
+    pub id_column: usize,
+    /// The id.
+    pub id: &'a [u8],
+    /// The place of the number's column, where a number is looked for.
+    pub number_column: Option<usize>,
+    /// The number.
+    pub number: Option<u32>,
 }
 
 /// The number of the first row behind the header that has what is sought, before the row of this number.
 #[inline(never)]
-pub(crate) fn earlier_row(
+pub fn earlier_row(
     alloc: Global,
     bytes: &[u8],
     sought: &Sought<'_>,

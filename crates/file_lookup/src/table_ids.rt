@@ -1,15 +1,14 @@
 //! The ids of a table.
 
-use crate::lookup::bytes_at;
+use crate::paths::bytes_at;
 use map_base::{NoMemory, Text};
-use message_texts::{meant, quoted};
 use std::alloc::Global;
 use std::rt::Files;
-use table_rows::{bare, column_of, field_in, rows_of};
+use table_rows::{column_of, field_in, rows_of};
 
 /// The field of each row of a table in the column of this name, as far as they are texts; none where the table or the
 /// column is not there.
-pub(crate) fn ids_at<R: Files + AllocGlobal>(
+pub fn ids_at<R: Files + AllocGlobal>(
     rt: &R,
     path: &str,
     name: &str,
@@ -35,26 +34,4 @@ fn ids_in(alloc: Global, bytes: &[u8], name: &str) -> Result<Vec<Text>, NoMemory
         }
     }
     Ok(ids)
-}
-
-/// The id that may be meant by a word that is none, as a question behind a message; empty where none is near.
-pub(crate) fn question(alloc: Global, word: &[u8], ids: &[Text]) -> Result<String, NoMemory> {
-    let Ok(word) = str::from_utf8(bare(word)) else {
-        return Ok(String::new(alloc));
-    };
-    match meant(alloc, word, ids)? {
-        Some(place) => asked(alloc, ids.get(place)),
-        None => Ok(String::new(alloc)),
-    }
-}
-
-/// The question whether a text is meant.
-fn asked(alloc: Global, near: Option<&Text>) -> Result<String, NoMemory> {
-    match near {
-        Some(near) => {
-            let near = quoted(alloc, near.as_str().as_bytes())?;
-            Ok(format!(in alloc; " (did you mean {near}?)")?)
-        }
-        None => Ok(String::new(alloc)),
-    }
 }
