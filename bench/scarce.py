@@ -31,7 +31,7 @@ from trials import COMMANDS, FEEDS, OLD, SECONDS, TOP, Judge, Program, write_fee
 MOST_LEVELS = 2048
 
 # bytes of stack: for a command, and for a proof of so many levels
-STACK, DEEP_STACK = 64 << 10, 1 << 20
+STACK, DEEP_STACK = 64 << 10, 512 << 10
 
 
 class Limited(Program):

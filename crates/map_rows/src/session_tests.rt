@@ -16,6 +16,11 @@ use std::test::Fail;
 /// A cell as wide as the stations are apart.
 const WIDE: &str = "cell = 2500\nstation = [1, 5, 0]\n";
 
+/// Lines that run straight, on cells of two sizes.
+const COARSE: &str = "cell = 2000\nstraight = 1000\n";
+
+const FINE: &str = "cell = 1000\nstraight = 1000\n";
+
 /// A draw, with a counter of steps of its own.
 fn draw_counted<L: Ledger>(
     alloc: Global,
@@ -74,26 +79,42 @@ fn a_refused_edit_changes_nothing(rt: HostRuntime) -> Result<(), Fail> {
     Ok(())
 }
 
+/// A session of two ways between the same ends.
+fn session_of_two_ways(alloc: Global) -> Result<Session, Fail> {
+    let all = settings_of(alloc, COARSE)?;
+    let tables = tables_of(alloc, straight_feeds::TWO_WAYS, &all.settings)?;
+    Ok(Session::begin(alloc, tables, all))
+}
+
+/// Whether a session of two ways draws what is made of them by these settings.
+fn draws_as_made(alloc: Global, session: &mut Session, settings: &str) -> Result<bool, Fail> {
+    let due = made_text(alloc, straight_feeds::TWO_WAYS, settings)?;
+    let drawn = drawn(alloc, session)?;
+    Ok(drawn.as_str() == due.as_str())
+}
+
 /// A kept drawing is straightened, and it is made anew where the cells are others.
 #[test]
 fn draws_are_straightened_as_maps_are(rt: HostRuntime) -> Result<(), Fail> {
     let alloc = rt.alloc();
-    let coarse = "cell = 2000\nstraight = 1000\n";
-    let fine = "cell = 1000\nstraight = 1000\n";
-    let all = settings_of(alloc, coarse)?;
-    let tables = tables_of(alloc, straight_feeds::TWO_WAYS, &all.settings)?;
-    let mut session = Session::begin(alloc, tables, all);
-    let coarse = made_text(alloc, straight_feeds::TWO_WAYS, coarse)?;
-    let fine = made_text(alloc, straight_feeds::TWO_WAYS, fine)?;
-    let first = drawn(alloc, &mut session)?;
-    assert_eq!(rt; first.as_str(), coarse.as_str());
-    let second = drawn(alloc, &mut session)?;
-    assert_eq!(rt; second.as_str(), coarse.as_str());
+    let mut session = session_of_two_ways(alloc)?;
+    assert!(rt;
+        draws_as_made(alloc, &mut session, COARSE)?,
+        "the first draw"
+    );
+    assert!(rt;
+        draws_as_made(alloc, &mut session, COARSE)?,
+        "a second draw"
+    );
     assert_eq!(rt; edit(alloc, &mut session, "cell\t1000"), Ok(()));
-    let third = drawn(alloc, &mut session)?;
-    assert_eq!(rt; third.as_str(), fine.as_str());
+    assert!(rt;
+        draws_as_made(alloc, &mut session, FINE)?,
+        "a draw on finer cells"
+    );
     assert_eq!(rt; edit(alloc, &mut session, "undo"), Ok(()));
-    let fourth = drawn(alloc, &mut session)?;
-    assert_eq!(rt; fourth.as_str(), coarse.as_str());
+    assert!(rt;
+        draws_as_made(alloc, &mut session, COARSE)?,
+        "a draw without the edit"
+    );
     Ok(())
 }

@@ -10,6 +10,7 @@ use std::rt::Files;
 const TOLD: usize = 12;
 
 /// The table of this name is missing in the folder of a feed.
+#[inline(never)]
 pub(crate) fn missing_table<R: Files + AllocGlobal + Clone + Drop>(
     rt: &R,
     feed: &str,
