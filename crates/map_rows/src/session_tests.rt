@@ -3,7 +3,7 @@
 ghost use Rattle.std.specs.Prelude.{◌≡◌, ◌<◌};
 
 use crate::answers::{both_texts, fault_text, made_text, settings_of, tables_of};
-use crate::{feeds, straight_feeds};
+use crate::feeds;
 use edit_session::Session;
 use map_base::Steps;
 use map_edits::{EditStop, read_edit};
@@ -15,11 +15,6 @@ use std::test::Fail;
 
 /// A cell as wide as the stations are apart.
 const WIDE: &str = "cell = 2500\nstation = [1, 5, 0]\n";
-
-/// Lines that run straight, on cells of two sizes.
-const COARSE: &str = "cell = 2000\nstraight = 1000\n";
-
-const FINE: &str = "cell = 1000\nstraight = 1000\n";
 
 /// A draw, with a counter of steps of its own.
 fn draw_counted<L: Ledger>(
@@ -76,55 +71,5 @@ fn a_refused_edit_changes_nothing(rt: HostRuntime) -> Result<(), Fail> {
         assert_eq!(rt; session.standing().len(), 0);
     }
     assert_eq!(rt; drawn(alloc, &mut session)?.as_str(), fresh.as_str());
-    Ok(())
-}
-
-/// A session of two ways between the same ends.
-fn session_of_two_ways(alloc: Global) -> Result<Session, Fail> {
-    let all = settings_of(alloc, COARSE)?;
-    let tables = tables_of(alloc, straight_feeds::TWO_WAYS, &all.settings)?;
-    Ok(Session::begin(alloc, tables, all))
-}
-
-/// Whether a session of two ways draws what is made of them by these settings.
-fn draws_as_made(alloc: Global, session: &mut Session, settings: &str) -> Result<bool, Fail> {
-    let due = made_text(alloc, straight_feeds::TWO_WAYS, settings)?;
-    let drawn = drawn(alloc, session)?;
-    Ok(drawn.as_str() == due.as_str())
-}
-
-/// The same of its draw behind an edit.
-fn draws_as_made_after(
-    alloc: Global,
-    session: &mut Session,
-    line: &str,
-    settings: &str,
-) -> Result<bool, Fail> {
-    match edit(alloc, session, line) {
-        Ok(()) => draws_as_made(alloc, session, settings),
-        Err(_) => Ok(false),
-    }
-}
-
-/// What is drawn again is straightened as what is drawn first.
-#[test]
-fn a_kept_drawing_is_straightened(rt: HostRuntime) -> Result<(), Fail> {
-    let alloc = rt.alloc();
-    let mut session = session_of_two_ways(alloc)?;
-    let first = draws_as_made(alloc, &mut session, COARSE)?;
-    let second = draws_as_made(alloc, &mut session, COARSE)?;
-    assert!(rt; first && second, "{first} {second}");
-    Ok(())
-}
-
-/// A kept drawing is made anew where the cells are others.
-#[test]
-fn other_cells_have_another_drawing(rt: HostRuntime) -> Result<(), Fail> {
-    let alloc = rt.alloc();
-    let mut session = session_of_two_ways(alloc)?;
-    let coarse = draws_as_made(alloc, &mut session, COARSE)?;
-    let fine = draws_as_made_after(alloc, &mut session, "cell\t1000", FINE)?;
-    let undone = draws_as_made_after(alloc, &mut session, "undo", COARSE)?;
-    assert!(rt; coarse && fine && undone, "{coarse} {fine} {undone}");
     Ok(())
 }
