@@ -79,12 +79,6 @@ orders_in_problem segs part lists are =
 
 -- ---- costs
 
-own_cost_on : (here there : List LineId) (part : List SegId) (t : Term)
-    → cost_on here there (term_in part t) ≡ cost_on here there t
-own_cost_on here there part (Side seg first second w) = refl
-own_cost_on here there part (Link seg other flip a b w) = refl
-own_cost_on here there part (Apart seg other a b w) = refl
-
 own_term_cost : (part : List SegId) (lists orders : List (List LineId)) (t : Term) → is_of part t ≡ true
     → ((u : SegId) → is_in part u ≡ true → lines_on lists (seg_in part u) ≡ lines_on orders u)
     → term_cost lists (term_in part t) ≡ term_cost orders t

@@ -10,7 +10,7 @@ use Rattle.dual_ascent.specs.OwnNumbers.{zeros, listed}
 use Rattle.dual_ascent.specs.LocalSearch.{first_incumbent}
 use Rattle.dual_ascent.specs.OpenPairs.{OpenPair, next_pair, ahead, behind}
 use Rattle.dual_ascent.specs.Rounds.{Search, LowerBound, Ascent, Stage, over, spent, is_shown, first_ascent, rounds, closed, ascended}
-use Rattle.dual_ascent.specs.Walks.{WalkedTree, forked, stopped, Progress, Walked, whole, cut, progress, orders_left, at_orders, Below, after_first, after_second, at_pair, at_open, at_node, after_rounds, walked}
+use Rattle.dual_ascent.specs.Walks.{WalkedTree, forked, stopped, Progress, Walked, whole, cut, progress, Below, after_first, after_second, at_pair, at_open, at_node, after_rounds, walked}
 use Rattle.order_values.specs.DualTrees.{PlainDual, fork, stop}
 use Rattle.dual_bound.specs.Accepting.{shows}
 use Rattle.dual_ascent.specs.DualResults.{collapsed, most_forks, root_rounds, first_progress, last_of, root_bound, result_after, dual_result}
@@ -32,10 +32,6 @@ pub some_next : (o : Option OpenPair) (pair : SettledPair) → IsNextPair o (Som
 some_next None pair h = absurd h
 some_next (Some c) pair h = (c, refl, h)
 
-pub none_next : (o : Option OpenPair) → IsNextPair o None → o ≡ None
-none_next None h = refl
-none_next (Some c) h = absurd h
-
 -- A node after its rounds.
 
 module _ (p : ProblemParts) (settled : List SettledPair) (a : Ascent) where
@@ -44,21 +40,6 @@ module _ (p : ProblemParts) (settled : List SettledPair) (a : Ascent) where
   node_shown f h = ap
       (λ b. cond b (whole (stopped (listed a.bound.prices)) (progress a))
       (at_open p f settled a (next_pair p settled a.averages))) h
-
-  node_open : (f : Option Below) (o : Option OpenPair) → is_shown a ≡ false → next_pair p settled a.averages ≡ o
-      → at_node p f settled a ≡ at_open p f settled a o
-  node_open f o h e =
-      ap (λ b. cond b (whole (stopped (listed a.bound.prices)) (progress a))
-      (at_open p f settled a (next_pair p settled a.averages))) h
-      ∙ ap (at_open p f settled a) e
-
-  pub node_left : (f : Option Below) → is_shown a ≡ false → next_pair p settled a.averages ≡ None
-      → at_node p f settled a ≡ at_orders p (orders_left p settled) a
-  node_left f h e = node_open f None h e
-
-  pub node_forks : (f : Option Below) (c : OpenPair) → is_shown a ≡ false → next_pair p settled a.averages ≡ Some c
-      → at_node p f settled a ≡ at_pair f c settled a
-  node_forks f c h e = node_open f (Some c) h e
 
 -- A walk.
 
@@ -81,20 +62,6 @@ pub fork_whole : (q : Search) (room : ℕ) (c : OpenPair) (bound : LowerBound) (
     ≡ whole (forked bound.value (listed bound.prices) c.seg (ahead c) (behind c) first second) two
 fork_whole q room c bound settled now one two first second e f =
     ap (after_first (walked q room 200) c bound settled) e ∙ ap (after_second c bound first) f
-
-pub fork_first_cut : (q : Search) (room : ℕ) (c : OpenPair) (bound : LowerBound) (settled : List SettledPair)
-    (now one : Progress)
-    → walked q room 200 (with_pair c.seg (ahead c) (behind c) settled) bound.prices now ≡ cut one
-    → fork_at q (suc room) c bound settled now ≡ cut one
-fork_first_cut q room c bound settled now one e = ap (after_first (walked q room 200) c bound settled) e
-
-pub fork_second_cut : (q : Search) (room : ℕ) (c : OpenPair) (bound : LowerBound) (settled : List SettledPair)
-    (now one two : Progress) (first : WalkedTree)
-    → walked q room 200 (with_pair c.seg (ahead c) (behind c) settled) bound.prices now ≡ whole first one
-    → walked q room 200 (with_pair c.seg (behind c) (ahead c) settled) bound.prices one ≡ cut two
-    → fork_at q (suc room) c bound settled now ≡ cut two
-fork_second_cut q room c bound settled now one two first e f = ap (after_first (walked q room 200) c bound settled) e
-    ∙ ap (after_second c bound first) f
 
 -- the pair of a fork, as it is settled either way
 abbrev pair_with : SegId → LineId → LineId → SettledPair
