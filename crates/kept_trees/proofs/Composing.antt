@@ -1,7 +1,7 @@
 -- How the steps of a round follow each other.
 use Rattle.std.proofs.Common.{◌≡◌, ℕ, zero, suc, ◌+◌, ◌*◌, ◌<◌, ◌≤◌, ◌==◌, ◌&&◌, ◌||◌, Bool, true, false, cond, List, [], ◌∷◌, length, refl, sym, ◌∙◌, ap, subst, arith, eq-eqb}
-use Rattle.std.specs.Prelude.{ℤ, nat_lt, int_lt, unsigned_abs}
-use Rattle.std.proofs.lemmas.Bool.Decides.{nat_tests}
+use Rattle.std.specs.Prelude.{ℤ, int_lt, unsigned_abs}
+use Rattle.std.proofs.lemmas.Bool.{le-ltb, ne_eqb}
 use Rattle.std.proofs.lemmas.List.Elements.{All-weaker}
 use Rattle.std.proofs.lemmas.List.Sums.{sum_by-cons, sum_by-le}
 use Rattle.map_base.specs.declared.ids.LineId.{LineId}
@@ -22,9 +22,6 @@ use Rattle.dual_orders.specs.declared.incumbent.Incumbent.{Incumbent as HeldIncu
 use Rattle.dual_orders.specs.Values.{IsIncumbent}
 use Rattle.dual_orders.proofs.Pricing.{length_within}
 use Rattle.kept_trees.specs.Searching.{moved}
-
-not_less : (m n : ℕ) → n ≤ m → nat_lt m n ≡ false
-not_less m n h = grind (arith, nat_tests)
 
 -- What orders cost.
 
@@ -73,12 +70,9 @@ still_from (y ∷ ds) h =
     let both = no_square (unsigned_abs y) (square_sum ds) (omega (arith, sum, h)) in
     ap (λ m. (m == 0) && are_still ds) both.0 ∙ still_from ds both.1
 
-apart_from_none : (n : ℕ) → 0 < n → (n == 0) ≡ false
-apart_from_none n h = grind (arith, nat_tests)
-
 moving_by : (m : ℕ) (y : ℤ) (ds : List ℤ) → unsigned_abs y ≡ m → (0 < square_sum ds → are_still ds ≡ false)
     → 0 < square_sum (y ∷ ds) → ((unsigned_abs y == 0) && are_still ds) ≡ false
-moving_by (suc m) y ds e rest h = ap (λ b. b && are_still ds) (apart_from_none (unsigned_abs y) (omega (arith, e)))
+moving_by (suc m) y ds e rest h = ap (λ b. b && are_still ds) (ne_eqb (unsigned_abs y) 0 (λ z. omega (arith, e, z)))
 moving_by zero y ds e rest h =
     let sum = sum_by-cons (λ (y : ℤ). unsigned_abs y * unsigned_abs y) y ds in
     let none : unsigned_abs y * unsigned_abs y ≡ 0 = ap (λ m. m * m) e in
@@ -100,7 +94,7 @@ module _ (q : Search) (settled : List SettledPair) (a : Ascent) where
   pub round_begun : a.branches + load_of q.problem.segs (all_segments q.problem) ≤ q.budget
       → one_round q settled a ≡ answered q settled (counted q a)
   round_begun h = ap (λ b. onward (cond b (spent a) (going (counted q a))) (answered q settled))
-      (not_less q.budget (a.branches + load_of q.problem.segs (all_segments q.problem)) h)
+      (le-ltb q.budget (a.branches + load_of q.problem.segs (all_segments q.problem)) h)
 
   pub answered_over : (orders : List (List LineId)) (value : ℤ) → is_shown (seen q orders value a) ≡ true
       → with_answers q settled orders value a ≡ over (seen q orders value a)
@@ -166,10 +160,6 @@ with_averages averages a = record a { averages = averages }
 -- as it lies in memory
 abbrev kept_with : ℤ → List ℤ → Ascent → Ascent
 kept_with value prices a = record a { bound = record { value = value; prices = prices }; stale = 0 }
-
-pub or_second : (b c : Bool) → c ≡ true → (b || c) ≡ true
-or_second true c h = refl
-or_second false c h = h
 
 pub kept_value : (value held : ℤ) (a : Ascent) (prices : List ℤ) → (a.round == 1 || int_lt a.bound.value value) ≡ true
     → held ≡ value → prices ≡ a.prices → kept_with held prices a ≡ with_value value a

@@ -1,7 +1,7 @@
 -- Prices that are listed one by one, and the prices of orders that are left.
 use Rattle.std.proofs.Common.{◌≡◌, ◌≢◌, ℕ, zero, suc, ◌+◌, ◌<◌, ◌≤◌, ◌==◌, Bool, true, false, cond, List, [], ◌∷◌, ◌++◌, length, take, get_or, refl, sym, ◌∙◌, ap, subst, arith}
 use Rattle.std.specs.Prelude.{ℤ, pos, negsuc, ◌*ℤ◌, unsigned_abs}
-use Rattle.std.proofs.lemmas.Bool.Decides.{nat_tests}
+use Rattle.std.proofs.lemmas.Bool.{ne_eqb}
 use Rattle.std.proofs.lemmas.List.{append-nil, append_assoc, take_more, take_all, length-take-le}
 use Rattle.map_base.specs.declared.ids.LineId.{LineId}
 use Rattle.order_values.specs.PriceLists.{AreRisingPrices}
@@ -44,13 +44,10 @@ listed_next prices k below =
     ∙ (end_listed 0 (take k prices) (get_or prices k (pos 0))
     ∙ ap (λ n. listed (take k prices) ++ one_listed n (get_or prices k (pos 0))) count)
 
-apart_from_none : (n : ℕ) → 0 < n → (n == 0) ≡ false
-apart_from_none n h = grind (arith, nat_tests)
-
 not_nothing : (y : ℤ) → y ≢ pos 0 → (unsigned_abs y == 0) ≡ false
 not_nothing (pos zero) h = absurd (h refl)
-not_nothing (pos (suc n)) h = apart_from_none (suc n) (omega arith)
-not_nothing (negsuc n) h = apart_from_none (suc n) (omega arith)
+not_nothing (pos (suc n)) h = ne_eqb (suc n) 0 (λ e. omega (arith, e))
+not_nothing (negsuc n) h = ne_eqb (suc n) 0 (λ e. omega (arith, e))
 
 -- a price that is not 0
 pub listed_more : (prices : List ℤ) (k : ℕ) (y : ℤ) (items : List (ℕ × ℤ)) → k < length prices

@@ -27,6 +27,7 @@ use Rattle.dual_ascent.specs.Shown.{IsListed}
 use Rattle.dual_ascent.proofs.OwnParts.{has_segment}
 use Rattle.kept_trees.specs.Renumbered.{renumbered_dual}
 use Rattle.kept_trees.proofs.OwnPlaces.{greater_later, place_within, place_at}
+use Rattle.kept_trees.proofs.OwnNumbers.{within_from}
 use Rattle.kept_trees.proofs.RenamedDuals.{moved_term, moved_terms, has_number, AreRenamed, accepted_moved, listed_moved, moved_depth}
 
 abbrev Named : Type 0
@@ -39,13 +40,6 @@ abbrev no_seg : SegId
 no_seg = record { 0 = 0 }
 
 -- ---- segments of a part by itself
-
-within_from : (k : ℕ) (segs : List (List LineId)) (s : SegId) → is_in (segments_from k segs) s ≡ true → s.0 < k + length segs
-within_from k [] s h = absurd (true≢false (sym h))
-within_from k (lines ∷ segs) s h = elim (either_true (k == s.0) (is_in (segments_from (k + 1) segs) s) h) [
-  | inl here ↦ omega (arith, eqb-true k s.0 here)
-  | inr later ↦ omega (arith, within_from (k + 1) segs s later)
-]
 
 all_from : (segs : List (List LineId)) (k : ℕ) (rest : List (List LineId)) → k + length rest ≤ length segs
     → AllByRecursion (λ (s : SegId). is_in (segments_from 0 segs) s ≡ true) (segments_from k rest)

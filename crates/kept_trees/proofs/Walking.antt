@@ -64,10 +64,10 @@ fork_whole q room c bound settled now one two first second e f =
     ap (after_first (walked q room 200) c bound settled) e ∙ ap (after_second c bound first) f
 
 -- the pair of a fork, as it is settled either way
-abbrev pair_with : SegId → LineId → LineId → SettledPair
+abbrev pub pair_with : SegId → LineId → LineId → SettledPair
 pair_with s a b = record { seg = s; first = a; second = b }
 
-same_pair : (q : SettledPair) (s : SegId) (a b : LineId) → q.seg ≡ s → q.first ≡ a → q.second ≡ b → q ≡ pair_with s a b
+pub same_pair : (q : SettledPair) (s : SegId) (a b : LineId) → q.seg ≡ s → q.first ≡ a → q.second ≡ b → q ≡ pair_with s a b
 same_pair q s a b e f g =
     ap (λ (x : SegId). pair_with x q.first q.second) e
     ∙ (ap (λ (x : LineId). pair_with s x q.second) f ∙ ap (λ (x : LineId). pair_with s a x) g)
