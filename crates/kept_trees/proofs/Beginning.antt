@@ -41,7 +41,4 @@ pub first_is : (q : Search) (prices : List ℤ) (best : Incumbent) (branches : �
     → averages ≡ no_averages q.problem
     → begun_with best branches at directions kept averages ≡ first_ascent q prices best branches
 first_is q prices best branches at directions kept averages a d k v =
-    ap (λ (l : List ℤ). begun_with best branches l directions kept averages) a
-    ∙ (ap (λ (l : List ℤ). begun_with best branches prices l kept averages) d
-    ∙ (ap (λ (l : List ℤ). begun_with best branches prices (zeros q.problem) l averages) k
-    ∙ ap (λ (l : List (List PairAverage)). begun_with best branches prices (zeros q.problem) prices l) v))
+    λ i. begun_with best branches (a i) (d i) (k i) (v i)

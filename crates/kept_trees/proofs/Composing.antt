@@ -164,8 +164,7 @@ kept_with value prices a = record a { bound = record { value = value; prices = p
 pub kept_value : (value held : ℤ) (a : Ascent) (prices : List ℤ) → (a.round == 1 || int_lt a.bound.value value) ≡ true
     → held ≡ value → prices ≡ a.prices → kept_with held prices a ≡ with_value value a
 kept_value value held a prices test same are =
-    ap (λ (v : ℤ). kept_with v prices a) same
-    ∙ (ap (λ (l : List ℤ). kept_with value l a) are ∙ sym (value_kept value a test))
+    (λ i. kept_with (same i) (are i) a) ∙ sym (value_kept value a test)
 
 -- The directions are turned.
 
@@ -186,9 +185,7 @@ module _ (q : Search) (orders : List (List LineId)) (a : Ascent) (ds : List ℤ)
       → directed q orders a ≡ over (met_with best branches ds)
   turn_stills best branches is none met same =
       directed_over q orders a (ap are_still (sym is) ∙ still_from ds none)
-      ∙ (ap (λ (l : List ℤ). over (met_with (after_offer q.problem orders a.incumbent) a.branches l)) (sym is)
-      ∙ (ap (λ (x : Incumbent). over (met_with x a.branches ds)) (sym met)
-      ∙ ap (λ n. over (met_with best n ds)) (sym same)))
+      ∙ sym (λ i. over (met_with (met i) (same i) (is i)))
 
 -- So many rounds.
 
@@ -217,6 +214,4 @@ module _ (q : Search) (settled : List SettledPair) where
       → best ≡ after_offer q.problem (averaged_orders q.problem settled a.averages) a.incumbent → branches ≡ a.branches
       → closed q settled s ≡ over (record a { incumbent = best; branches = branches })
   closed_is s a best branches e met same =
-      ap (closed q settled) e
-      ∙ (ap (λ (x : Incumbent). over (record a { incumbent = x })) (sym met)
-      ∙ ap (λ n. over (record a { incumbent = best; branches = n })) (sym same))
+      ap (closed q settled) e ∙ sym (λ i. over (record a { incumbent = met i; branches = same i }))

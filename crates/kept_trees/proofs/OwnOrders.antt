@@ -86,12 +86,10 @@ own_term_cost part lists orders (Side seg first second w) of same =
     let both = and_parts (is_in part seg) (is_in part seg) of in ap (λ (ls : List LineId). cost_on ls ls (Side seg first second w)) (same seg both.0)
 own_term_cost part lists orders (Link seg other flip a b w) of same =
     let both = and_parts (is_in part seg) (is_in part other) of in
-    ap (λ (ls : List LineId). cost_on ls (lines_on lists (seg_in part other)) (Link seg other flip a b w)) (same seg both.0)
-    ∙ ap (λ (ls : List LineId). cost_on (lines_on orders seg) ls (Link seg other flip a b w)) (same other both.1)
+    λ i. cost_on (same seg both.0 i) (same other both.1 i) (Link seg other flip a b w)
 own_term_cost part lists orders (Apart seg other a b w) of same =
     let both = and_parts (is_in part seg) (is_in part other) of in
-    ap (λ (ls : List LineId). cost_on ls (lines_on lists (seg_in part other)) (Apart seg other a b w)) (same seg both.0)
-    ∙ ap (λ (ls : List LineId). cost_on (lines_on orders seg) ls (Apart seg other a b w)) (same other both.1)
+    λ i. cost_on (same seg both.0 i) (same other both.1 i) (Apart seg other a b w)
 
 own_sum : (part : List SegId) (lists orders : List (List LineId)) (qs : List (ℕ × Term))
     → AllByRecursion (λ (q : ℕ × Term). is_of part q.1 ≡ true) qs

@@ -73,10 +73,7 @@ module _ (p : ProblemParts) (budget : ℕ) where
       subst (λ (l : List SettledPair). closed searched (pairs_of l) (rounds searched (pairs_of l) root_rounds start)
       ≡ s) none made in
       let same : start ≡ first_ascent searched (zeros p) (first_incumbent p) 0 =
-      e
-      ∙ (ap (λ (l : List ℤ). first_ascent searched l best branches) z
-      ∙ (ap (λ (x : Incumbent). first_ascent searched (zeros p) x branches) f
-      ∙ ap (λ (k : ℕ). first_ascent searched (zeros p) (first_incumbent p) k) n)) in
+      e ∙ (λ i. first_ascent searched (z i) (f i) (n i)) in
       ap (λ (a : Ascent). closed searched [] (rounds searched [] root_rounds a)) (sym same) ∙ h
 
   pub spent_is : (a : Ascent) (b : LowerBound) → root ≡ spent a → b ≡ a.bound

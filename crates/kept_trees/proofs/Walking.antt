@@ -68,9 +68,7 @@ abbrev pub pair_with : SegId → LineId → LineId → SettledPair
 pair_with s a b = record { seg = s; first = a; second = b }
 
 pub same_pair : (q : SettledPair) (s : SegId) (a b : LineId) → q.seg ≡ s → q.first ≡ a → q.second ≡ b → q ≡ pair_with s a b
-same_pair q s a b e f g =
-    ap (λ (x : SegId). pair_with x q.first q.second) e
-    ∙ (ap (λ (x : LineId). pair_with s x q.second) f ∙ ap (λ (x : LineId). pair_with s a x) g)
+same_pair q s a b e f g = λ i. pair_with (e i) (f i) (g i)
 
 pub settled_ahead : (c : OpenPair) (pair : SettledPair) (settled : List SettledPair) → IsForkAt c pair
     → pair ∷ settled ≡ with_pair c.seg (ahead c) (behind c) settled
@@ -104,12 +102,8 @@ module _ (q : Search) (room less : ℕ) (is : room ≡ suc less) (c : OpenPair) 
       ∙ (fork_whole q less c bound settled now one two first second
       (ap (λ (s : List SettledPair). below_by s now) (sym (settled_ahead c pair settled at)) ∙ e)
       (ap (λ (s : List SettledPair). below_by s one) (sym (settled_behind c pair settled at)) ∙ f)
-      ∙ (ap (λ (s : SegId). whole (fork_with bound.value (listed bound.prices) s (ahead c) (behind c) first second) two)
-      (sym at.seg)
-      ∙ (ap (λ (a : LineId). whole (fork_with bound.value (listed bound.prices) pair.seg a (behind c) first second) two)
-      (sym at.first)
-      ∙ ap (λ (b : LineId). whole (fork_with bound.value (listed bound.prices) pair.seg pair.first b first second) two)
-      (sym at.second))))
+      ∙ sym (λ i. whole (fork_with bound.value (listed bound.prices) (at.seg i) (at.first i) (at.second i) first second)
+      two))
 
 -- the same as it lies in memory
 pub forked_is : (value other : ℤ) (prices others : List (ℕ × ℤ)) (seg : SegId) (a b : LineId)
@@ -117,10 +111,7 @@ pub forked_is : (value other : ℤ) (prices others : List (ℕ × ℤ)) (seg : S
     → fork_with other others seg a b (plain_walked first) (plain_walked second)
     ≡ fork_with value prices seg a b (plain_walked one) (plain_walked two)
 forked_is value other prices others seg a b one two first second v p e f =
-    ap (λ (x : ℤ). fork_with x others seg a b (plain_walked first) (plain_walked second)) (sym v)
-    ∙ (ap (λ (x : List (ℕ × ℤ)). fork_with value x seg a b (plain_walked first) (plain_walked second)) (sym p)
-    ∙ (ap (λ (x : HeldTree). fork_with value prices seg a b (plain_walked x) (plain_walked second)) (sym e)
-    ∙ ap (λ (x : HeldTree). fork_with value prices seg a b (plain_walked one) (plain_walked x)) (sym f)))
+    sym (λ i. fork_with (v i) (p i) seg a b (plain_walked (e i)) (plain_walked (f i)))
 
 -- The rounds of a node.
 
