@@ -1,8 +1,6 @@
 -- What a node begins with.
-use Rattle.std.proofs.Common.{◌≡◌, ℕ, List, [], ◌∷◌, length, map, replicate, refl, ◌∙◌, ap, arith, sym}
+use Rattle.std.proofs.Common.{◌≡◌, ℕ, List, [], ◌∷◌, length, map, replicate, refl, ◌∙◌, ap, sym}
 use Rattle.std.specs.Prelude.{ℤ, pos}
-use Rattle.std.specs.List.{All}
-use Rattle.std.proofs.lemmas.List.Elements.{All-replicate}
 use Rattle.order_model.specs.declared.term.Term.{Term}
 use Rattle.order_model.specs.declared.problem.ProblemParts.{ProblemParts}
 use Rattle.dual_ascent.specs.declared.pair_average.PairAverage.{PairAverage}
@@ -10,7 +8,6 @@ use Rattle.dual_ascent.specs.OwnNumbers.{zeros}
 use Rattle.dual_ascent.specs.Averages.{no_averages}
 use Rattle.dual_ascent.specs.LocalSearch.{Incumbent}
 use Rattle.dual_ascent.specs.Rounds.{Search, Ascent, first_ascent}
-use Rattle.dual_rounds.specs.Ranges.{IsDirection}
 
 -- numbers that are all 0, one a term
 pub zeros_are : (terms : List Term) → replicate (length terms) (pos 0) ≡ map (λ (t : Term). pos 0) terms
@@ -24,9 +21,6 @@ zeros_as_many terms n e = ap (λ m. replicate m (pos 0)) e ∙ zeros_are terms
 pub zero_prices : (p q : ProblemParts) (terms : List Term) → p ≡ q → terms ≡ q.terms
     → replicate (length terms) (pos 0) ≡ zeros p
 zero_prices p q terms same are = zeros_as_many q.terms (length terms) (ap length are) ∙ ap zeros (sym same)
-
-pub still_directions : (n : ℕ) → All IsDirection (replicate n (pos 0))
-still_directions n = All-replicate IsDirection n (pos 0) (omega arith)
 
 -- from these prices, where nothing was tried
 abbrev begun_with : Incumbent → ℕ → List ℤ → List ℤ → List ℤ → List (List PairAverage) → Ascent
@@ -47,7 +41,4 @@ pub first_is : (q : Search) (prices : List ℤ) (best : Incumbent) (branches : �
     → averages ≡ no_averages q.problem
     → begun_with best branches at directions kept averages ≡ first_ascent q prices best branches
 first_is q prices best branches at directions kept averages a d k v =
-    ap (λ (l : List ℤ). begun_with best branches l directions kept averages) a
-    ∙ (ap (λ (l : List ℤ). begun_with best branches prices l kept averages) d
-    ∙ (ap (λ (l : List ℤ). begun_with best branches prices (zeros q.problem) l averages) k
-    ∙ ap (λ (l : List (List PairAverage)). begun_with best branches prices (zeros q.problem) prices l) v))
+    λ i. begun_with best branches (a i) (d i) (k i) (v i)

@@ -146,12 +146,6 @@ with_progress now a = record {
   branches = now.branches;
 }
 
-abbrev round_counted : HeldAscent → HeldAscent
-round_counted a = record a { round = a.round + 1 }
-
-abbrev counted_by : ℕ → HeldProgress → HeldProgress
-counted_by load now = record now { branches = now.branches + load }
-
 abbrev pub one_more : Search → Ascent → Ascent
 one_more q a = record a { round = a.round + 1; branches = a.branches + load_of q.problem.segs (all_segments q.problem) }
 
@@ -161,7 +155,6 @@ pub counted_is : (search : HeldSearch) (start now later : HeldProgress) (a b : H
     → b ≡ record a { round = a.round + 1 }
     → ascent_of later b ≡ one_more (search_of search) (ascent_of start a)
 counted_is search start now later a b load counts same rounds =
-    ap (λ (n : Progress). with_progress n b) same
-    ∙ (ap (λ (n : HeldProgress). ascent_of n b) counts
-    ∙ (ap (λ (x : HeldAscent). ascent_of (counted_by search.part.load start) x) rounds
-    ∙ ap (λ (l : ℕ). ascent_of (counted_by l start) (round_counted a)) load))
+    (λ i. with_progress (same i) b)
+    ∙ (λ i. ascent_of (counts i) (rounds i))
+    ∙ ap (λ (l : ℕ). ascent_of (record start { branches = start.branches + l }) (record a { round = a.round + 1 })) load

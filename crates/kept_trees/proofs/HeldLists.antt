@@ -56,15 +56,3 @@ fewer_to_meet old new plan p part kept = by_test (is_held old here) refl
         at_most : (b : Bool) → cond b 0 (branches_met plan p part) ≤ branches_met plan p part
         at_most true = omega arith
         at_most false = omega arith
-
--- all branch nodes of a part that is not held are to be met
-pub all_to_meet : (held : List HeldPart) (plan : SearchPlan) (p : ProblemParts) (part : List SegId)
-    → is_held held (held_as plan p part) ≡ false
-    → branches_to_meet held plan p part ≡ branches_met plan p part
-all_to_meet held plan p part absent = ap (λ b. cond b 0 (branches_met plan p part)) absent
-
--- and none of one that is
-pub none_to_meet : (held : List HeldPart) (plan : SearchPlan) (p : ProblemParts) (part : List SegId)
-    → is_held held (held_as plan p part) ≡ true
-    → branches_to_meet held plan p part ≡ 0
-none_to_meet held plan p part there = ap (λ b. cond b 0 (branches_met plan p part)) there

@@ -55,9 +55,6 @@ pair_is s t o p a c b d w v h =
 own_number : (n : ℕ) → (n == n) ≡ true
 own_number n = eq-eqb n n refl
 
-pair_same : (o a b w : ℕ) → (o == o && (a == a && (b == b && w == w))) ≡ true
-pair_same o a b w = and_from (o == o) _ (own_number o) (and_from (a == a) _ (own_number a) (and_from (b == b) _ (own_number b) (own_number w)))
-
 term_is : (t u : Term) → is_same_term t u ≡ true → t ≡ u
 term_is (Side s a b w) (Side t c d v) h =
     let one = and_parts (s.0 == t.0) (a.0 == c.0 && (b.0 == d.0 && w == v)) h in
@@ -83,11 +80,9 @@ term_is (Apart s o a b w) (Side t c d v) h = absurd (true≢false (sym h))
 term_is (Apart s o a b w) (Link t p g c d v) h = absurd (true≢false (sym h))
 
 term_same : (t : Term) → is_same_term t t ≡ true
-term_same (Side s a b w) = pair_same s.0 a.0 b.0 w
-term_same (Link s o f a b w) =
-    and_from (s.0 == s.0) _ (own_number s.0) (and_from (o.0 == o.0) _ (own_number o.0) (and_from (same_answer f f) _ (answer_same f)
-    (and_from (a.0 == a.0) _ (own_number a.0) (and_from (b.0 == b.0) _ (own_number b.0) (own_number w)))))
-term_same (Apart s o a b w) = and_from (s.0 == s.0) _ (own_number s.0) (pair_same o.0 a.0 b.0 w)
+term_same (Side s a b w) = simp own_number
+term_same (Link s o f a b w) = simp (own_number, answer_same)
+term_same (Apart s o a b w) = simp own_number
 
 term_decides : (t u : Term) → (is_same_term t u ≡ true → t ≡ u) × (t ≡ u → is_same_term t u ≡ true)
 term_decides t u = (term_is t u, λ e. subst (λ (x : Term). is_same_term t x ≡ true) e (term_same t))

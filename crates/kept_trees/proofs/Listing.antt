@@ -1,12 +1,11 @@
 -- Prices that are listed one by one, and the prices of orders that are left.
-use Rattle.std.proofs.Common.{◌≡◌, ◌≢◌, ℕ, zero, suc, ◌+◌, ◌<◌, ◌≤◌, ◌==◌, Bool, true, false, cond, List, [], ◌∷◌, ◌++◌, length, map, take, get_or, refl, sym, ◌∙◌, ap, subst, arith}
+use Rattle.std.proofs.Common.{◌≡◌, ◌≢◌, ℕ, zero, suc, ◌+◌, ◌<◌, ◌≤◌, ◌==◌, Bool, true, false, cond, List, [], ◌∷◌, ◌++◌, length, take, get_or, refl, sym, ◌∙◌, ap, subst, arith}
 use Rattle.std.specs.Prelude.{ℤ, pos, negsuc, ◌*ℤ◌, unsigned_abs}
-use Rattle.std.proofs.lemmas.Bool.Decides.{nat_tests}
-use Rattle.std.proofs.lemmas.List.{append-nil, append_assoc, take_more, take_all, map_more, length-take-le}
+use Rattle.std.proofs.lemmas.Bool.{ne_eqb}
+use Rattle.std.proofs.lemmas.List.{append-nil, append_assoc, take_more, take_all, length-take-le}
 use Rattle.map_base.specs.declared.ids.LineId.{LineId}
 use Rattle.order_values.specs.PriceLists.{AreRisingPrices}
 use Rattle.order_model.specs.declared.term.Term.{Term}
-use Rattle.order_model.specs.PartTerms.{no_term}
 use Rattle.dual_ascent.specs.OwnNumbers.{listed_from, listed}
 use Rattle.dual_ascent.specs.DualSteps.{most_price, subgradient}
 use Rattle.dual_ascent.proofs.Listing.{listed_stop}
@@ -45,13 +44,10 @@ listed_next prices k below =
     ∙ (end_listed 0 (take k prices) (get_or prices k (pos 0))
     ∙ ap (λ n. listed (take k prices) ++ one_listed n (get_or prices k (pos 0))) count)
 
-apart_from_none : (n : ℕ) → 0 < n → (n == 0) ≡ false
-apart_from_none n h = grind (arith, nat_tests)
-
 not_nothing : (y : ℤ) → y ≢ pos 0 → (unsigned_abs y == 0) ≡ false
 not_nothing (pos zero) h = absurd (h refl)
-not_nothing (pos (suc n)) h = apart_from_none (suc n) (omega arith)
-not_nothing (negsuc n) h = apart_from_none (suc n) (omega arith)
+not_nothing (pos (suc n)) h = ne_eqb (suc n) 0 (λ e. omega (arith, e))
+not_nothing (negsuc n) h = ne_eqb (suc n) 0 (λ e. omega (arith, e))
 
 -- a price that is not 0
 pub listed_more : (prices : List ℤ) (k : ℕ) (y : ℤ) (items : List (ℕ × ℤ)) → k < length prices
@@ -83,11 +79,3 @@ listed_rises prices items is = subst AreRisingPrices (sym is) (listed_stop price
 
 abbrev pub exact_by : List (List LineId) → Term → ℤ
 exact_by orders t = pos (most_price t) *ℤ subgradient orders t
-
-pub exact_more : (orders : List (List LineId)) (terms : List Term) (i : ℕ) (items : List ℤ) (y : ℤ) → i < length terms
-    → items ≡ map (exact_by orders) (take i terms) → y ≡ exact_by orders (get_or terms i no_term)
-    → items ++ y ∷ [] ≡ map (exact_by orders) (take (i + 1) terms)
-exact_more orders terms i items y below so_far is =
-    ap (λ l. l ++ y ∷ []) so_far
-    ∙ (ap (λ (v : ℤ). map (exact_by orders) (take i terms) ++ v ∷ []) is
-    ∙ sym (map_more (exact_by orders) terms i no_term below))

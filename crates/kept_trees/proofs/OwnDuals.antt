@@ -1,8 +1,8 @@
 -- A dual tree that is accepted for a part by itself is accepted for the part in its problem, with the numbers of the problem.
-use Rattle.std.proofs.Common.{◌≡◌, ℕ, suc, ◌+◌, ◌<◌, ◌≤◌, ◌==◌, ◌||◌, eqb-true, inl, inr, Bool, true, false, List, [], ◌∷◌, length, map, get_or, refl, sym, ◌∙◌, ap, subst, true≢false, arith, None}
+use Rattle.std.proofs.Common.{◌≡◌, ℕ, suc, ◌+◌, ◌<◌, ◌≤◌, ◌==◌, eqb-true, inl, inr, true, List, [], ◌∷◌, length, map, get_or, refl, sym, ◌∙◌, ap, subst, true≢false, arith, None}
 use Rattle.std.specs.Prelude.{ℤ}
 use Rattle.std.specs.List.{AllByRecursion}
-use Rattle.std.proofs.lemmas.Bool.{and_from, and_parts, eqb-false}
+use Rattle.std.proofs.lemmas.Bool.{and_from, and_parts, eqb-false, cases_Bool, or_left, or_right}
 use Rattle.std.proofs.lemmas.List.{get_or-map, length-map}
 use Rattle.map_base.specs.declared.ids.SegId.{SegId}
 use Rattle.map_base.specs.declared.ids.LineId.{LineId}
@@ -27,6 +27,7 @@ use Rattle.dual_ascent.specs.Shown.{IsListed}
 use Rattle.dual_ascent.proofs.OwnParts.{has_segment}
 use Rattle.kept_trees.specs.Renumbered.{renumbered_dual}
 use Rattle.kept_trees.proofs.OwnPlaces.{greater_later, place_within, place_at}
+use Rattle.kept_trees.proofs.OwnNumbers.{within_from}
 use Rattle.kept_trees.proofs.RenamedDuals.{moved_term, moved_terms, has_number, AreRenamed, accepted_moved, listed_moved, moved_depth}
 
 abbrev Named : Type 0
@@ -39,13 +40,6 @@ abbrev no_seg : SegId
 no_seg = record { 0 = 0 }
 
 -- ---- segments of a part by itself
-
-within_from : (k : ℕ) (segs : List (List LineId)) (s : SegId) → is_in (segments_from k segs) s ≡ true → s.0 < k + length segs
-within_from k [] s h = absurd (true≢false (sym h))
-within_from k (lines ∷ segs) s h = elim (either_true (k == s.0) (is_in (segments_from (k + 1) segs) s) h) [
-  | inl here ↦ omega (arith, eqb-true k s.0 here)
-  | inr later ↦ omega (arith, within_from (k + 1) segs s later)
-]
 
 all_from : (segs : List (List LineId)) (k : ℕ) (rest : List (List LineId)) → k + length rest ≤ length segs
     → AllByRecursion (λ (s : SegId). is_in (segments_from 0 segs) s ≡ true) (segments_from k rest)
@@ -70,10 +64,10 @@ term_back part (Side seg first second w) of =
     ap (λ (s : SegId). Side s first second w) (seg_back part seg (and_parts (is_in part seg) (is_in part seg) of).0)
 term_back part (Link seg other flip a b w) of =
     let both = and_parts (is_in part seg) (is_in part other) of in
-    ap (λ (s : SegId). Link s (seg_from part (seg_in part other)) flip a b w) (seg_back part seg both.0) ∙ ap (λ (s : SegId). Link seg s flip a b w) (seg_back part other both.1)
+    λ i. Link (seg_back part seg both.0 i) (seg_back part other both.1 i) flip a b w
 term_back part (Apart seg other a b w) of =
     let both = and_parts (is_in part seg) (is_in part other) of in
-    ap (λ (s : SegId). Apart s (seg_from part (seg_in part other)) a b w) (seg_back part seg both.0) ∙ ap (λ (s : SegId). Apart seg s a b w) (seg_back part other both.1)
+    λ i. Apart (seg_back part seg both.0 i) (seg_back part other both.1 i) a b w
 
 abbrev own_from : List SegId → ℕ → List Named → List Named
 own_from part k rest = numbered_from k (map (term_in part) (plain_terms rest))
@@ -89,22 +83,21 @@ terms_back part numbers k (q ∷ rest) of same =
     ∙ ap (λ (t : Term). (q.0, t) ∷ later) (term_back part q.1 of.0)
     ∙ ap (λ (qs : List Named). q ∷ qs) (terms_back part numbers (k + 1) rest of.1 (λ i j e below. same (suc i) j (omega (arith, e)) (omega (arith, below))))
 
+own_in : (part : List SegId) (segs : List (List LineId)) (s : SegId) → length segs ≡ length part → is_in part s ≡ true
+    → is_in (segments_from 0 segs) (seg_in part s) ≡ true
+own_in part segs s each on = has_segment 0 segs (seg_in part s) (omega arith) (omega (arith, each, place_within part s on))
+
 own_of : (part : List SegId) (segs : List (List LineId)) (t : Term) → length segs ≡ length part → is_of part t ≡ true
     → is_of (segments_from 0 segs) (term_in part t) ≡ true
 own_of part segs (Side seg first second w) each of =
     let both = and_parts (is_in part seg) (is_in part seg) of in
-    let one = has_segment 0 segs (seg_in part seg) (omega arith) (omega (arith, each, place_within part seg both.0)) in
-    and_from (is_in (segments_from 0 segs) (seg_in part seg)) (is_in (segments_from 0 segs) (seg_in part seg)) one one
+    and_from _ _ (own_in part segs seg each both.0) (own_in part segs seg each both.1)
 own_of part segs (Link seg other flip a b w) each of =
     let both = and_parts (is_in part seg) (is_in part other) of in
-    and_from (is_in (segments_from 0 segs) (seg_in part seg)) (is_in (segments_from 0 segs) (seg_in part other))
-    (has_segment 0 segs (seg_in part seg) (omega arith) (omega (arith, each, place_within part seg both.0)))
-    (has_segment 0 segs (seg_in part other) (omega arith) (omega (arith, each, place_within part other both.1)))
+    and_from _ _ (own_in part segs seg each both.0) (own_in part segs other each both.1)
 own_of part segs (Apart seg other a b w) each of =
     let both = and_parts (is_in part seg) (is_in part other) of in
-    and_from (is_in (segments_from 0 segs) (seg_in part seg)) (is_in (segments_from 0 segs) (seg_in part other))
-    (has_segment 0 segs (seg_in part seg) (omega arith) (omega (arith, each, place_within part seg both.0)))
-    (has_segment 0 segs (seg_in part other) (omega arith) (omega (arith, each, place_within part other both.1)))
+    and_from _ _ (own_in part segs seg each both.0) (own_in part segs other each both.1)
 
 all_of : (part : List SegId) (segs : List (List LineId)) (k : ℕ) (rest : List Named) → length segs ≡ length part
     → AllByRecursion (λ (q : Named). is_of part q.1 ≡ true) rest
@@ -114,13 +107,12 @@ all_of part segs k (q ∷ rest) each of = (own_of part segs q.1 each of.0, all_o
 
 number_in : (k : ℕ) (ts : List Term) (i : ℕ) → k ≤ i → i < k + length ts → has_number (numbered_from k ts) i ≡ true
 number_in k [] i low high = absurd (omega (arith, low, high))
-number_in k (t ∷ ts) i low high =
-    by (k == i) refl (λ e. number_in (k + 1) ts i (omega (arith, low, eqb-false k i e)) (omega (arith, high)))
-  where
-    by : (b : Bool) → (k == i) ≡ b → ((k == i) ≡ false → has_number (numbered_from (k + 1) ts) i ≡ true)
-        → (b || has_number (numbered_from (k + 1) ts) i) ≡ true
-    by true e later = refl
-    by false e later = later e
+number_in k (t ∷ ts) i low high = elim (cases_Bool (k == i)) [
+  | inl here ↦ or_left (k == i) (has_number (numbered_from (k + 1) ts) i) here
+  | inr off ↦
+      or_right (k == i) (has_number (numbered_from (k + 1) ts) i)
+      (number_in (k + 1) ts i (omega (arith, low, eqb-false k i off)) (omega (arith, high)))
+]
 
 number_below : (k : ℕ) (ts : List Term) (i : ℕ) → has_number (numbered_from k ts) i ≡ true → i < k + length ts
 number_below k [] i h = absurd (true≢false (sym h))

@@ -1,6 +1,6 @@
 -- All segments of a part by itself.
-use Rattle.std.proofs.Common.{◌≡◌, ℕ, suc, ◌+◌, ◌*◌, ◌/◌, ◌^◌, ◌<◌, nat_le, Bool, ◌&&◌, List, [], ◌∷◌, length, map, sum_by, get_or}
-use Rattle.std.proofs.Common.{refl, sym, ◌∙◌, ap, arith}
+use Rattle.std.proofs.Common.{◌≡◌, ℕ, suc, ◌+◌, ◌*◌, ◌/◌, ◌^◌, ◌<◌, ◌==◌, nat_le, Bool, true, ◌&&◌, List, [], ◌∷◌, length, map, sum_by, get_or}
+use Rattle.std.proofs.Common.{refl, sym, ◌∙◌, ap, arith, inl, inr, eqb-true, true≢false}
 use Rattle.std.specs.List.{list_all}
 use Rattle.std.proofs.lemmas.List.Sums.{sum_by-cons}
 use Rattle.map_base.specs.declared.ids.SegId.{SegId}
@@ -8,11 +8,21 @@ use Rattle.map_base.specs.declared.ids.LineId.{LineId}
 use Rattle.order_model.specs.declared.problem.ProblemParts.{ProblemParts}
 use Rattle.order_model.specs.Problems.{lines_on, choices}
 use Rattle.order_model.specs.Parts.{IsRisingPart}
+use Rattle.order_model.specs.PartTerms.{is_in}
+use Rattle.order_model.proofs.Lines.{either_true}
 use Rattle.order_search.specs.Finding.{places_of}
 use Rattle.order_search.specs.ByItself.{by_itself, numbered_like, own_segments}
 use Rattle.order_search.proofs.OwnParts.{at_number, lines_there}
 use Rattle.dual_bound.specs.Accepting.{is_narrow, load_of}
 use Rattle.dual_ascent.specs.OwnNumbers.{segments_from, all_segments}
+
+pub within_from : (k : ℕ) (segs : List (List LineId)) (s : SegId) → is_in (segments_from k segs) s ≡ true
+    → s.0 < k + length segs
+within_from k [] s h = absurd (true≢false (sym h))
+within_from k (lines ∷ segs) s h = elim (either_true (k == s.0) (is_in (segments_from (k + 1) segs) s) h) [
+  | inl here ↦ omega (arith, eqb-true k s.0 here)
+  | inr later ↦ omega (arith, within_from (k + 1) segs s later)
+]
 
 own_from : (segs : List (List LineId)) (k : ℕ) (part : List SegId)
     → segments_from k (map (lines_on segs) part) ≡ numbered_like k part

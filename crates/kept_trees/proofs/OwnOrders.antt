@@ -79,12 +79,6 @@ orders_in_problem segs part lists are =
 
 -- ---- costs
 
-own_cost_on : (here there : List LineId) (part : List SegId) (t : Term)
-    → cost_on here there (term_in part t) ≡ cost_on here there t
-own_cost_on here there part (Side seg first second w) = refl
-own_cost_on here there part (Link seg other flip a b w) = refl
-own_cost_on here there part (Apart seg other a b w) = refl
-
 own_term_cost : (part : List SegId) (lists orders : List (List LineId)) (t : Term) → is_of part t ≡ true
     → ((u : SegId) → is_in part u ≡ true → lines_on lists (seg_in part u) ≡ lines_on orders u)
     → term_cost lists (term_in part t) ≡ term_cost orders t
@@ -92,12 +86,10 @@ own_term_cost part lists orders (Side seg first second w) of same =
     let both = and_parts (is_in part seg) (is_in part seg) of in ap (λ (ls : List LineId). cost_on ls ls (Side seg first second w)) (same seg both.0)
 own_term_cost part lists orders (Link seg other flip a b w) of same =
     let both = and_parts (is_in part seg) (is_in part other) of in
-    ap (λ (ls : List LineId). cost_on ls (lines_on lists (seg_in part other)) (Link seg other flip a b w)) (same seg both.0)
-    ∙ ap (λ (ls : List LineId). cost_on (lines_on orders seg) ls (Link seg other flip a b w)) (same other both.1)
+    λ i. cost_on (same seg both.0 i) (same other both.1 i) (Link seg other flip a b w)
 own_term_cost part lists orders (Apart seg other a b w) of same =
     let both = and_parts (is_in part seg) (is_in part other) of in
-    ap (λ (ls : List LineId). cost_on ls (lines_on lists (seg_in part other)) (Apart seg other a b w)) (same seg both.0)
-    ∙ ap (λ (ls : List LineId). cost_on (lines_on orders seg) ls (Apart seg other a b w)) (same other both.1)
+    λ i. cost_on (same seg both.0 i) (same other both.1 i) (Apart seg other a b w)
 
 own_sum : (part : List SegId) (lists orders : List (List LineId)) (qs : List (ℕ × Term))
     → AllByRecursion (λ (q : ℕ × Term). is_of part q.1 ≡ true) qs

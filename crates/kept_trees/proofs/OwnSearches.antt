@@ -11,36 +11,29 @@ use Rattle.kept_trees.proofs.LiveOutcomes.{Outcome}
 
 module _ (plan : SearchPlan) (own problem : ProblemParts) (same : problem ≡ own) (asked : Bool)
     (asked_is : asked ≡ is_dual plan.search problem (all_segments problem)) where
-  abbrev priced : Outcome
-  priced = dual_outcome plan.claim plan.budget (dual_own plan.budget problem)
+  abbrev by_prices : Outcome
+  by_prices = dual_outcome plan.claim plan.budget (dual_own plan.budget problem)
 
   abbrev live : List SegId → Outcome
   live part = live_outcome plan.budget problem part
 
-  abbrev live_branches : List SegId → ℕ
-  live_branches part = branches_in problem part
+  abbrev outcome_by : Bool → Outcome
+  outcome_by b = cond b by_prices (live (all_segments problem))
 
-  pub priced_outcome : asked ≡ true → priced ≡ own_outcome plan own
-  priced_outcome dual =
-      sym (ap (λ (b : Bool). cond b priced (live (all_segments problem))) (sym asked_is ∙ dual)) ∙ ap (own_outcome plan) same
+  abbrev branches_by : Bool → ℕ
+  branches_by b = cond b (dual_own plan.budget problem).branches (branches_in problem (all_segments problem))
 
-  pub priced_branches : asked ≡ true → (dual_result problem plan.budget).branches ≡ own_branches plan own
-  priced_branches dual =
-      sym (ap (λ (b : Bool). cond b (dual_own plan.budget problem).branches (live_branches (all_segments problem))) (sym asked_is ∙ dual))
-      ∙ ap (own_branches plan) same
+  pub priced : asked ≡ true
+      → (by_prices ≡ own_outcome plan own) × ((dual_result problem plan.budget).branches ≡ own_branches plan own)
+  priced dual = (
+    sym (ap outcome_by (sym asked_is ∙ dual)) ∙ ap (own_outcome plan) same,
+    sym (ap branches_by (sym asked_is ∙ dual)) ∙ ap (own_branches plan) same,
+  )
 
-  module _ (part : List SegId) (part_is : part ≡ all_segments own) where
-    all_there : part ≡ all_segments problem
-    all_there = part_is ∙ sym (ap all_segments same)
-
-    pub grown_outcome : asked ≡ false → live part ≡ own_outcome plan own
-    grown_outcome not_dual =
-        ap live all_there
-        ∙ sym (ap (λ (b : Bool). cond b priced (live (all_segments problem))) (sym asked_is ∙ not_dual))
-        ∙ ap (own_outcome plan) same
-
-    pub grown_branches : asked ≡ false → live_branches part ≡ own_branches plan own
-    grown_branches not_dual =
-        ap live_branches all_there
-        ∙ sym (ap (λ (b : Bool). cond b (dual_own plan.budget problem).branches (live_branches (all_segments problem))) (sym asked_is ∙ not_dual))
-        ∙ ap (own_branches plan) same
+  pub grown : (part : List SegId) → part ≡ all_segments own → asked ≡ false
+      → (live part ≡ own_outcome plan own) × (branches_in problem part ≡ own_branches plan own)
+  grown part part_is not_dual =
+      let all : part ≡ all_segments problem = part_is ∙ sym (ap all_segments same) in (
+        ap live all ∙ sym (ap outcome_by (sym asked_is ∙ not_dual)) ∙ ap (own_outcome plan) same,
+        ap (branches_in problem) all ∙ sym (ap branches_by (sym asked_is ∙ not_dual)) ∙ ap (own_branches plan) same,
+      )

@@ -1,10 +1,10 @@
 -- A dual tree that is accepted for a part is accepted for the same part under other numbers of segments and terms.
-use Rattle.std.proofs.Common.{◌≡◌, ◌≢◌, ℕ, suc, max, ◌+◌, ◌*◌, ◌/◌, ◌^◌, ◌==◌, nat_le, ℤ, pos, Bool, true, false, ◌&&◌, ◌||◌, not, cond, List, [], ◌∷◌, length, map, filter, sum_by, refl, sym, ◌∙◌, ap, true≢false, Option, Some, None, inl, inr}
+use Rattle.std.proofs.Common.{◌≡◌, ◌≢◌, ℕ, ◌+◌, ◌*◌, ◌/◌, ◌^◌, ◌==◌, nat_le, ℤ, pos, Bool, true, false, ◌&&◌, not, cond, List, [], ◌∷◌, length, map, filter, sum_by, refl, sym, ◌∙◌, ap, true≢false, Option, Some, None, inl, inr}
 use Rattle.std.proofs.Math.Path.{fun_ext}
 use Rattle.std.specs.List.{list_any, AllByRecursion}
 use Rattle.std.proofs.lemmas.Bool.{and_from, and_parts, or_left, or_right}
 use Rattle.std.proofs.lemmas.List.Sums.{sum_by-cons}
-use Rattle.std.specs.Prelude.{◌-ℤ◌, ◌+ℤ◌, unsigned_abs}
+use Rattle.std.specs.Prelude.{unsigned_abs}
 use Rattle.map_base.specs.declared.ids.SegId.{SegId}
 use Rattle.map_base.specs.declared.ids.LineId.{LineId}
 use Rattle.order_values.specs.PriceLists.{AreRisingPrices, price_at}
@@ -12,7 +12,6 @@ use Rattle.order_values.specs.DualTrees.{PlainDual, fork, stop, fork_depth, stop
 use Rattle.order_model.specs.declared.term.Term.{Term}
 use Rattle.order_model.specs.declared.term.Term.TheVariants.{Side, Link, Apart}
 use Rattle.order_model.specs.Problems.{lines_on}
-use Rattle.order_model.specs.Costs.{comes_before, are_neighbours}
 use Rattle.order_model.specs.Places.{has_line}
 use Rattle.order_model.specs.PartTerms.{is_in, is_of}
 use Rattle.order_model.specs.Questions.{Question, question}
@@ -25,9 +24,9 @@ use Rattle.dual_ascent.specs.Shown.{IsListed}
 use Rattle.kept_trees.specs.Renumbered.{dual_by}
 use Rattle.dual_bound.specs.declared.settled.SettledPair.{SettledPair}
 use Rattle.dual_bound.specs.Settled.{settled_on, with_pair}
-use Rattle.dual_bound.specs.Shares.{thousand, where_so, x_of, z_of, term_share, share_of}
+use Rattle.dual_bound.specs.Shares.{thousand, term_share, share_of}
 use Rattle.dual_bound.specs.Values.{least_share, plus, value_of, allows, are_allowed}
-use Rattle.dual_bound.specs.Accepting.{most_lines, is_narrow, shows, is_stopped, is_fork, after_line, first_of, failing_below, steps_on, load_of, most_load, is_light, failing}
+use Rattle.dual_bound.specs.Accepting.{is_narrow, shows, is_stopped, is_fork, after_line, first_of, failing_below, steps_on, load_of, most_load, is_light, failing}
 
 abbrev Named : Type 0
 Named = ℕ × Term
@@ -63,17 +62,13 @@ module _ (f : SegId → SegId) (g : ℕ → ℕ) (segs others : List (List LineI
   moved_share : (p : ℤ) (s : SegId) (order : List LineId) (t : Term) → is_in part s ≡ true → is_of part t ≡ true
       → term_share p (f s) order (moved_term f t) ≡ term_share p s order t
   moved_share p s order (Side seg first second w) on of =
-      let both = and_parts (is_in part seg) (is_in part seg) of in
-      ap (λ (b : Bool). cond b (where_so (comes_before order second first) (pos (thousand * w))) (pos 0)) (same.apart seg s both.0 on)
+      rw (same.apart seg s (and_parts (is_in part seg) (is_in part seg) of).0 on) refl
   moved_share p s order (Link seg other flip a b w) on of =
       let both = and_parts (is_in part seg) (is_in part other) of in
-      ap (λ (c : Bool). cond c (where_so (z_of order flip a b) p) (pos 0) -ℤ cond ((f seg).0 == (f s).0) (where_so (x_of order a b) p) (pos 0)) (same.apart other s both.1 on)
-      ∙ ap (λ (c : Bool). cond (other.0 == s.0) (where_so (z_of order flip a b) p) (pos 0) -ℤ cond c (where_so (x_of order a b) p) (pos 0)) (same.apart seg s both.0 on)
+      rw (same.apart other s both.1 on, same.apart seg s both.0 on) refl
   moved_share p s order (Apart seg other a b w) on of =
       let both = and_parts (is_in part seg) (is_in part other) of in
-      let beside : ℤ = where_so (are_neighbours order a b) p in
-      ap (λ (c : Bool). cond c beside (pos 0) -ℤ cond ((f seg).0 == (f s).0) beside (pos 0)) (same.apart other s both.1 on)
-      ∙ ap (λ (c : Bool). cond (other.0 == s.0) beside (pos 0) -ℤ cond c beside (pos 0)) (same.apart seg s both.0 on)
+      rw (same.apart other s both.1 on, same.apart seg s both.0 on) refl
 
   -- what is to be known of each of some terms
   abbrev AreKnown : List Named → Type 0
@@ -88,9 +83,8 @@ module _ (f : SegId → SegId) (g : ℕ → ℕ) (segs others : List (List LineI
       → share_of (moved_terms f g ts) other (f s) order ≡ share_of ts price s order
   moved_shares price other s order [] on known prices = refl
   moved_shares price other s order (q ∷ ts) on known prices =
-      ap (λ (v : ℤ). v +ℤ share_of (moved_terms f g ts) other (f s) order)
-      (ap (λ (p : ℤ). term_share p (f s) order (moved_term f q.1)) prices.0 ∙ moved_share (price q.0) s order q.1 on known.0.0)
-      ∙ ap (λ (v : ℤ). term_share (price q.0) s order q.1 +ℤ v) (moved_shares price other s order ts on known.1 prices.1)
+      let later = moved_shares price other s order ts on known.1 prices.1 in
+      rw (prices.0, moved_share (price q.0) s order q.1 on known.0.0, later) refl
 
   -- ---- prices
 
@@ -100,9 +94,7 @@ module _ (f : SegId → SegId) (g : ℕ → ℕ) (segs others : List (List LineI
   moved_price : (prices : List (ℕ × ℤ)) (k : ℕ) → AreKnownPrices prices → has_number terms k ≡ true
       → price_at (prices_by g prices) (g k) ≡ price_at prices k
   moved_price [] k known of = refl
-  moved_price (q ∷ prices) k known of =
-      ap (λ (b : Bool). cond b q.1 (price_at (prices_by g prices) (g k))) (same.numbers q.0 k known.0 of)
-      ∙ ap (λ (p : ℤ). cond (q.0 == k) q.1 p) (moved_price prices k known.1 of)
+  moved_price (q ∷ prices) k known of = rw (same.numbers q.0 k known.0 of, moved_price prices k known.1 of) refl
 
   same_prices : (prices : List (ℕ × ℤ)) (ts : List Named) → AreKnownPrices prices → AreKnown ts
       → AreSamePrices (price_at prices) (price_at (prices_by g prices)) ts
@@ -167,16 +159,12 @@ module _ (f : SegId → SegId) (g : ℕ → ℕ) (segs others : List (List LineI
   moved_any : (q : ℕ × ℤ) (ts : List Named) → has_number terms q.0 ≡ true → AreKnown ts
       → list_any (allows (g q.0, q.1)) (moved_terms f g ts) ≡ list_any (allows q) ts
   moved_any q [] known all = refl
-  moved_any q (t ∷ ts) known all =
-      ap (λ (b : Bool). b || list_any (allows (g q.0, q.1)) (moved_terms f g ts)) (moved_allows q t known all.0.1)
-      ∙ ap (λ (b : Bool). allows q t || b) (moved_any q ts known all.1)
+  moved_any q (t ∷ ts) known all = rw (moved_allows q t known all.0.1, moved_any q ts known all.1) refl
 
   moved_allowed : (prices : List (ℕ × ℤ)) → AreKnownPrices prices → AreKnown terms
       → are_allowed (moved_terms f g terms) (prices_by g prices) ≡ are_allowed terms prices
   moved_allowed [] known all = refl
-  moved_allowed (q ∷ prices) known all =
-      ap (λ (b : Bool). b && are_allowed (moved_terms f g terms) (prices_by g prices)) (moved_any q terms known.0 all)
-      ∙ ap (λ (b : Bool). list_any (allows q) terms && b) (moved_allowed prices known.1 all)
+  moved_allowed (q ∷ prices) known all = rw (moved_any q terms known.0 all, moved_allowed prices known.1 all) refl
 
   -- the terms of allowed prices are known
   allows_number : (q : ℕ × ℤ) (t : Named) → allows q t ≡ true → (t.0 == q.0) ≡ true
@@ -199,15 +187,12 @@ module _ (f : SegId → SegId) (g : ℕ → ℕ) (segs others : List (List LineI
 
   moved_narrow : (some : List SegId) → AreIn some → is_narrow others (map f some) ≡ is_narrow segs some
   moved_narrow [] on = refl
-  moved_narrow (s ∷ some) on =
-      ap (λ (lines : List LineId). nat_le (length lines) most_lines && is_narrow others (map f some)) (same.lines s on.0)
-      ∙ ap (λ (b : Bool). nat_le (length (lines_on segs s)) most_lines && b) (moved_narrow some on.1)
+  moved_narrow (s ∷ some) on = rw (same.lines s on.0, moved_narrow some on.1) refl
 
   moved_in : (some : List SegId) (s : SegId) → AreIn some → is_in part s ≡ true
       → is_in (map f some) (f s) ≡ is_in some s
   moved_in [] s on in_part = refl
-  moved_in (t ∷ some) s on in_part =
-      ap (λ (b : Bool). b || is_in (map f some) (f s)) (same.apart t s on.0 in_part) ∙ ap (λ (b : Bool). (t.0 == s.0) || b) (moved_in some s on.1 in_part)
+  moved_in (t ∷ some) s on in_part = rw (same.apart t s on.0 in_part, moved_in some s on.1 in_part) refl
 
   module _ (target : ℕ) (all : AreIn part) (known : AreKnown terms) where
     abbrev Q : Question
@@ -219,27 +204,21 @@ module _ (f : SegId → SegId) (g : ℕ → ℕ) (segs others : List (List LineI
     stop_holds : (settled : List SettledPair) (prices : List (ℕ × ℤ)) → AreSettledIn settled
         → is_stopped Q settled prices ≡ true → is_stopped R (moved_pairs f settled) (prices_by g prices) ≡ true
     stop_holds settled prices in_part h =
-        let both = and_parts (are_allowed terms prices) (is_narrow segs part && shows target (value_of segs terms (price_at prices) settled part)) h in
-        let rest = and_parts (is_narrow segs part) (shows target (value_of segs terms (price_at prices) settled part)) both.1 in
+        let value : Option ℤ = value_of segs terms (price_at prices) settled part in
+        let both = and_parts (are_allowed terms prices) (is_narrow segs part && shows target value) h in
+        let rest = and_parts (is_narrow segs part) (shows target value) both.1 in
         let of = known_prices prices both.0 in
-        and_from (are_allowed (moved_terms f g terms) (prices_by g prices)) (is_narrow others (map f part) && shows target (value_of others (moved_terms f g terms) (price_at (prices_by g prices)) (moved_pairs f settled) (map f part)))
-        (moved_allowed prices of known ∙ both.0)
-        (and_from (is_narrow others (map f part)) (shows target (value_of others (moved_terms f g terms) (price_at (prices_by g prices)) (moved_pairs f settled) (map f part)))
-        (moved_narrow part all ∙ rest.0)
-        (ap (shows target) (moved_value (price_at prices) (price_at (prices_by g prices)) settled part all known (same_prices prices terms of known) in_part) ∙ rest.1))
+        let there = moved_value (price_at prices) (price_at (prices_by g prices)) settled part all known
+        (same_prices prices terms of known) in_part in
+        and_from _ _ (moved_allowed prices of known ∙ both.0)
+        (and_from _ _ (moved_narrow part all ∙ rest.0) (ap (shows target) there ∙ rest.1))
 
     fork_in : (s : SegId) (a b : LineId) → is_fork Q s a b ≡ true → is_in part s ≡ true
     fork_in s a b h = (and_parts (is_in part s) (has_line (lines_on segs s) a && (has_line (lines_on segs s) b && not (a.0 == b.0))) h).0
 
     fork_holds : (s : SegId) (a b : LineId) → is_fork Q s a b ≡ true → is_fork R (f s) a b ≡ true
     fork_holds s a b h =
-        let on = fork_in s a b h in
-        ap (λ (c : Bool). c && (has_line (lines_on others (f s)) a && (has_line (lines_on others (f s)) b && not (a.0 == b.0)))) (moved_in part s all on)
-        ∙ ap (λ (lines : List LineId). is_in part s && (has_line lines a && (has_line lines b && not (a.0 == b.0)))) (same.lines s on)
-        ∙ h
-
-    way : Option (List LineId) → Type 0
-    way o = o ≡ None
+        let on = fork_in s a b h in rw (moved_in part s all on, same.lines s on) h
 
     some_way : (ls : List LineId) → Some ls ≡ None → ⊥
     some_way ls h = cc
@@ -263,7 +242,7 @@ module _ (f : SegId → SegId) (g : ℕ → ℕ) (segs others : List (List LineI
 
     none_both : (a b : LineId) (o other : Option (List LineId)) → o ≡ None → other ≡ None
         → first_of (after_line a o) (after_line b other) ≡ None
-    none_both a b o other e h = ap (λ (x : Option (List LineId)). first_of (after_line a x) (after_line b other)) e ∙ ap (after_line b) h
+    none_both a b o other e h = rw (e, h) refl
 
     none_below : (tree : PlainDual) (settled : List SettledPair) → AreSettledIn settled
         → failing_below Q settled tree ≡ None
@@ -287,7 +266,7 @@ module _ (f : SegId → SegId) (g : ℕ → ℕ) (segs others : List (List LineI
     -- the load stays
 
     moved_stops : (tree : PlainDual) → stops_of (dual_by f g tree) ≡ stops_of tree
-    moved_stops (fork s a b first second) = ap (λ (n : ℕ). n + stops_of (dual_by f g second)) (moved_stops first) ∙ ap (λ (n : ℕ). stops_of first + n) (moved_stops second)
+    moved_stops (fork s a b first second) = rw (moved_stops first, moved_stops second) refl
     moved_stops (stop prices) = refl
 
     moved_steps : (some : List SegId) → AreIn some → sum_by (steps_on others) (map f some) ≡ sum_by (steps_on segs) some
@@ -339,7 +318,5 @@ module _ (f : SegId → SegId) (g : ℕ → ℕ) (segs others : List (List LineI
 
 -- new numbers change no depth
 pub moved_depth : (f : SegId → SegId) (g : ℕ → ℕ) (tree : PlainDual) → fork_depth (dual_by f g tree) ≡ fork_depth tree
-moved_depth f g (fork s a b first second) =
-    ap (λ (n : ℕ). suc (max n (fork_depth (dual_by f g second)))) (moved_depth f g first)
-    ∙ ap (λ (n : ℕ). suc (max (fork_depth first) n)) (moved_depth f g second)
+moved_depth f g (fork s a b first second) = rw (moved_depth f g first, moved_depth f g second) refl
 moved_depth f g (stop prices) = refl

@@ -1,6 +1,6 @@
 -- What is found of the root.
-use Rattle.std.proofs.Common.{◌≡◌, ℕ, ◌≤◌, List, [], refl, sym, ◌∙◌, ap, arith, Option, Some, None, ◌+◌, Result, subst, ◌<◌, true, length}
-use Rattle.std.specs.Prelude.{ℤ, IfOk}
+use Rattle.std.proofs.Common.{◌≡◌, ℕ, ◌≤◌, List, [], refl, sym, ◌∙◌, ap, arith, Option, Some, None, ◌+◌, Result, Ok, Err, subst, ◌<◌, true, length}
+use Rattle.std.specs.Prelude.{ℤ, IfOk, IfErr}
 use Rattle.order_model.specs.declared.problem.ProblemParts.{ProblemParts}
 use Rattle.dual_bound.specs.declared.settled.SettledPair.{SettledPair}
 use Rattle.dual_ascent.specs.OwnNumbers.{zeros}
@@ -16,7 +16,6 @@ use Rattle.kept_trees.specs.Finding.{result_found}
 use Rattle.dual_bound.specs.Accepting.{most_load}
 use Rattle.order_model.specs.Problems.{IsProblem}
 use Rattle.map_base.specs.declared.memory.NoMemory.{NoMemory}
-use Rattle.std.proofs.lemmas.Result.{IfOk-weaker}
 use Rattle.dual_orders.specs.NextPairs.{IsForkAt}
 use Rattle.dual_orders.specs.SettledPairs.{pairs_of}
 use Rattle.kept_trees.specs.declared.walked.WalkedTree.{WalkedTree as HeldTree}
@@ -25,25 +24,23 @@ use Rattle.kept_trees.specs.Searching.{below, fork_at, plain_walked, WalkIs, End
 use Rattle.kept_trees.proofs.Walking.{pair_is, result_spent, result_over}
 use Rattle.kept_trees.proofs.Counting.{node_grows}
 
--- What is handed out of a result.
+-- What is told of a result that is handed out.
 
-pub found_by : (r : Result DualFound NoMemory) (left want : DualResult) → left ≡ want
-    → IfOk r (λ (f : DualFound). result_found f ≡ left) → IfOk r (λ (f : DualFound). result_found f ≡ want)
-found_by r left want is h = IfOk-weaker r (λ (f : DualFound). result_found f ≡ left)
-    (λ (f : DualFound). result_found f ≡ want) (λ f e. e ∙ is) h
-
-pub shown_by : (r : Result DualFound NoMemory) (left : DualResult) (p : ProblemParts) (budget : ℕ) → IsProblem p
-    → 0 < length p.segs → is_in_reach p ≡ true → budget ≤ most_load → left ≡ dual_result p budget
-    → IfOk r (λ (f : DualFound). result_found f ≡ left) → IfOk r (λ (f : DualFound). IsShown p budget (result_found f))
-shown_by r left p budget fits some reach light is h =
-    IfOk-weaker r (λ (f : DualFound). result_found f ≡ left) (λ (f : DualFound). IsShown p budget (result_found f))
-    (λ f e. subst (IsShown p budget) (sym (e ∙ is)) (reached_shown p budget fits.rising fits.terms some reach light)) h
-
-pub steps_by : (r : Result DualFound NoMemory) (left : DualResult) (old new : ℕ) → new ≡ old + left.branches
-    → IfOk r (λ (f : DualFound). result_found f ≡ left) → IfOk r (λ (f : DualFound). new ≡ old + f.branches)
-steps_by r left old new same h =
-    IfOk-weaker r (λ (f : DualFound). result_found f ≡ left) (λ (f : DualFound). new ≡ old + f.branches)
-    (λ f e. (let count = ap (λ (x : DualResult). x.branches) e in omega (arith, same, count))) h
+pub told_by : (r : Result DualFound NoMemory) (left : DualResult) (p q : ProblemParts) (budget old new : ℕ) → p ≡ q
+    → IsProblem q → 0 < length q.segs → is_in_reach q ≡ true → budget ≤ most_load → left ≡ dual_result p budget
+    → new ≡ old + left.branches → IfOk r (λ (f : DualFound). result_found f ≡ left)
+    → IfOk r (λ (f : DualFound). result_found f ≡ dual_result q budget)
+    × IfOk r (λ (f : DualFound). IsShown q budget (result_found f))
+    × IfOk r (λ (f : DualFound). new ≡ old + f.branches)
+    × IfErr r (λ (e : NoMemory). new ≤ old + (dual_result q budget).branches)
+told_by (Ok f) left p q budget old new same fits some reach light is counts h =
+    let found = h ∙ is ∙ ap (λ (x : ProblemParts). dual_result x budget) same in
+    let count = ap (λ (x : DualResult). x.branches) h in
+    let shown = reached_shown q budget fits.rising fits.terms some reach light in
+    (found, subst (IsShown q budget) (sym found) shown, omega (arith, counts, count), tt)
+told_by (Err e) left p q budget old new same fits some reach light is counts h =
+    let count = ap (λ (x : DualResult). x.branches) (is ∙ ap (λ (x : ProblemParts). dual_result x budget) same) in
+    (tt, tt, tt, omega (arith, counts, count))
 
 counts_same : (b : LowerBound) (w : Walked) → (result_after b w).branches ≡ counted w
 counts_same b (whole tree now) = refl
@@ -63,7 +60,7 @@ module _ (p : ProblemParts) (budget : ℕ) where
   abbrev pub searched : Search
   searched = record { problem = p; budget = budget }
 
-  abbrev root : Stage
+  abbrev pub root : Stage
   root = ascended searched [] root_rounds (zeros p) (first_incumbent p) 0
 
   pub root_are : (stack : List SettledPair) (start : Ascent) (prices : List ℤ) (best : Incumbent) (branches : ℕ)
@@ -76,10 +73,7 @@ module _ (p : ProblemParts) (budget : ℕ) where
       subst (λ (l : List SettledPair). closed searched (pairs_of l) (rounds searched (pairs_of l) root_rounds start)
       ≡ s) none made in
       let same : start ≡ first_ascent searched (zeros p) (first_incumbent p) 0 =
-      e
-      ∙ (ap (λ (l : List ℤ). first_ascent searched l best branches) z
-      ∙ (ap (λ (x : Incumbent). first_ascent searched (zeros p) x branches) f
-      ∙ ap (λ (k : ℕ). first_ascent searched (zeros p) (first_incumbent p) k) n)) in
+      e ∙ (λ i. first_ascent searched (z i) (f i) (n i)) in
       ap (λ (a : Ascent). closed searched [] (rounds searched [] root_rounds a)) (sym same) ∙ h
 
   pub spent_is : (a : Ascent) (b : LowerBound) → root ≡ spent a → b ≡ a.bound

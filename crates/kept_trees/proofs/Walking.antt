@@ -10,7 +10,7 @@ use Rattle.dual_ascent.specs.OwnNumbers.{zeros, listed}
 use Rattle.dual_ascent.specs.LocalSearch.{first_incumbent}
 use Rattle.dual_ascent.specs.OpenPairs.{OpenPair, next_pair, ahead, behind}
 use Rattle.dual_ascent.specs.Rounds.{Search, LowerBound, Ascent, Stage, over, spent, is_shown, first_ascent, rounds, closed, ascended}
-use Rattle.dual_ascent.specs.Walks.{WalkedTree, forked, stopped, Progress, Walked, whole, cut, progress, orders_left, at_orders, Below, after_first, after_second, at_pair, at_open, at_node, after_rounds, walked}
+use Rattle.dual_ascent.specs.Walks.{WalkedTree, forked, stopped, Progress, Walked, whole, cut, progress, Below, after_first, after_second, at_pair, at_open, at_node, after_rounds, walked}
 use Rattle.order_values.specs.DualTrees.{PlainDual, fork, stop}
 use Rattle.dual_bound.specs.Accepting.{shows}
 use Rattle.dual_ascent.specs.DualResults.{collapsed, most_forks, root_rounds, first_progress, last_of, root_bound, result_after, dual_result}
@@ -32,10 +32,6 @@ pub some_next : (o : Option OpenPair) (pair : SettledPair) → IsNextPair o (Som
 some_next None pair h = absurd h
 some_next (Some c) pair h = (c, refl, h)
 
-pub none_next : (o : Option OpenPair) → IsNextPair o None → o ≡ None
-none_next None h = refl
-none_next (Some c) h = absurd h
-
 -- A node after its rounds.
 
 module _ (p : ProblemParts) (settled : List SettledPair) (a : Ascent) where
@@ -44,21 +40,6 @@ module _ (p : ProblemParts) (settled : List SettledPair) (a : Ascent) where
   node_shown f h = ap
       (λ b. cond b (whole (stopped (listed a.bound.prices)) (progress a))
       (at_open p f settled a (next_pair p settled a.averages))) h
-
-  node_open : (f : Option Below) (o : Option OpenPair) → is_shown a ≡ false → next_pair p settled a.averages ≡ o
-      → at_node p f settled a ≡ at_open p f settled a o
-  node_open f o h e =
-      ap (λ b. cond b (whole (stopped (listed a.bound.prices)) (progress a))
-      (at_open p f settled a (next_pair p settled a.averages))) h
-      ∙ ap (at_open p f settled a) e
-
-  pub node_left : (f : Option Below) → is_shown a ≡ false → next_pair p settled a.averages ≡ None
-      → at_node p f settled a ≡ at_orders p (orders_left p settled) a
-  node_left f h e = node_open f None h e
-
-  pub node_forks : (f : Option Below) (c : OpenPair) → is_shown a ≡ false → next_pair p settled a.averages ≡ Some c
-      → at_node p f settled a ≡ at_pair f c settled a
-  node_forks f c h e = node_open f (Some c) h e
 
 -- A walk.
 
@@ -82,28 +63,12 @@ pub fork_whole : (q : Search) (room : ℕ) (c : OpenPair) (bound : LowerBound) (
 fork_whole q room c bound settled now one two first second e f =
     ap (after_first (walked q room 200) c bound settled) e ∙ ap (after_second c bound first) f
 
-pub fork_first_cut : (q : Search) (room : ℕ) (c : OpenPair) (bound : LowerBound) (settled : List SettledPair)
-    (now one : Progress)
-    → walked q room 200 (with_pair c.seg (ahead c) (behind c) settled) bound.prices now ≡ cut one
-    → fork_at q (suc room) c bound settled now ≡ cut one
-fork_first_cut q room c bound settled now one e = ap (after_first (walked q room 200) c bound settled) e
-
-pub fork_second_cut : (q : Search) (room : ℕ) (c : OpenPair) (bound : LowerBound) (settled : List SettledPair)
-    (now one two : Progress) (first : WalkedTree)
-    → walked q room 200 (with_pair c.seg (ahead c) (behind c) settled) bound.prices now ≡ whole first one
-    → walked q room 200 (with_pair c.seg (behind c) (ahead c) settled) bound.prices one ≡ cut two
-    → fork_at q (suc room) c bound settled now ≡ cut two
-fork_second_cut q room c bound settled now one two first e f = ap (after_first (walked q room 200) c bound settled) e
-    ∙ ap (after_second c bound first) f
-
 -- the pair of a fork, as it is settled either way
-abbrev pair_with : SegId → LineId → LineId → SettledPair
+abbrev pub pair_with : SegId → LineId → LineId → SettledPair
 pair_with s a b = record { seg = s; first = a; second = b }
 
-same_pair : (q : SettledPair) (s : SegId) (a b : LineId) → q.seg ≡ s → q.first ≡ a → q.second ≡ b → q ≡ pair_with s a b
-same_pair q s a b e f g =
-    ap (λ (x : SegId). pair_with x q.first q.second) e
-    ∙ (ap (λ (x : LineId). pair_with s x q.second) f ∙ ap (λ (x : LineId). pair_with s a x) g)
+pub same_pair : (q : SettledPair) (s : SegId) (a b : LineId) → q.seg ≡ s → q.first ≡ a → q.second ≡ b → q ≡ pair_with s a b
+same_pair q s a b e f g = λ i. pair_with (e i) (f i) (g i)
 
 pub settled_ahead : (c : OpenPair) (pair : SettledPair) (settled : List SettledPair) → IsForkAt c pair
     → pair ∷ settled ≡ with_pair c.seg (ahead c) (behind c) settled
@@ -137,12 +102,8 @@ module _ (q : Search) (room less : ℕ) (is : room ≡ suc less) (c : OpenPair) 
       ∙ (fork_whole q less c bound settled now one two first second
       (ap (λ (s : List SettledPair). below_by s now) (sym (settled_ahead c pair settled at)) ∙ e)
       (ap (λ (s : List SettledPair). below_by s one) (sym (settled_behind c pair settled at)) ∙ f)
-      ∙ (ap (λ (s : SegId). whole (fork_with bound.value (listed bound.prices) s (ahead c) (behind c) first second) two)
-      (sym at.seg)
-      ∙ (ap (λ (a : LineId). whole (fork_with bound.value (listed bound.prices) pair.seg a (behind c) first second) two)
-      (sym at.first)
-      ∙ ap (λ (b : LineId). whole (fork_with bound.value (listed bound.prices) pair.seg pair.first b first second) two)
-      (sym at.second))))
+      ∙ sym (λ i. whole (fork_with bound.value (listed bound.prices) (at.seg i) (at.first i) (at.second i) first second)
+      two))
 
 -- the same as it lies in memory
 pub forked_is : (value other : ℤ) (prices others : List (ℕ × ℤ)) (seg : SegId) (a b : LineId)
@@ -150,10 +111,7 @@ pub forked_is : (value other : ℤ) (prices others : List (ℕ × ℤ)) (seg : S
     → fork_with other others seg a b (plain_walked first) (plain_walked second)
     ≡ fork_with value prices seg a b (plain_walked one) (plain_walked two)
 forked_is value other prices others seg a b one two first second v p e f =
-    ap (λ (x : ℤ). fork_with x others seg a b (plain_walked first) (plain_walked second)) (sym v)
-    ∙ (ap (λ (x : List (ℕ × ℤ)). fork_with value x seg a b (plain_walked first) (plain_walked second)) (sym p)
-    ∙ (ap (λ (x : HeldTree). fork_with value prices seg a b (plain_walked x) (plain_walked second)) (sym e)
-    ∙ ap (λ (x : HeldTree). fork_with value prices seg a b (plain_walked one) (plain_walked x)) (sym f)))
+    sym (λ i. fork_with (v i) (p i) seg a b (plain_walked (e i)) (plain_walked (f i)))
 
 -- The rounds of a node.
 

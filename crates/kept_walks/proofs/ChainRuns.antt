@@ -172,10 +172,6 @@ module _ (graph : GraphParts) (fit : IsConsistent graph) (corners : List Bool) (
           before_once (round_of graph c.from) h.seg k.seg (subst (λ (s : SegId). stands_before (round_of graph c.from) h.seg s ≡ true) (sym other) c_parts.1)
           (subst (λ (x : NodeId). stands_before (round_of graph x) k.seg h.seg ≡ true) same (subst (λ (s : SegId). stands_before (round_of graph d.from) k.seg s ≡ true) (sym first) d_parts.1))
 
-  last_any : (s t : SegId) (ts : List ChainStep) → 0 < length ts → last_seg s ts ≡ last_seg t ts
-  last_any s t [] some = absurd (omega (arith, some))
-  last_any s t (u ∷ us) some = refl
-
   -- so they are one
   pub share_same : (c d : Chain) (h : IsChain graph corners c) (k : IsChain graph corners d) → (q p : ChainStep) → In q c.steps → In p d.steps → q.seg ≡ p.seg → (c.from ≡ d.from) × (h.seg ≡ k.seg)
   share_same c d h k q p i j same = by_way (leads_either graph one.from other.from q p one.leads other.leads same)

@@ -60,9 +60,6 @@ before_total : (r : List SegId) (a b : SegId) → In a r → In b r → (a.0 ≡
 before_total [] a b i j differ e = absurd i
 before_total (x ∷ r) a b i j differ e = by_first (cases_eq x.0 a.0) (cases_eq x.0 b.0) i j (before_total r a b)
   where
-    same : (s t : SegId) → s.0 ≡ t.0 → eqb s.0 t.0 ≡ true
-    same s t f = eq-eqb s.0 t.0 f
-
     by_first : (x.0 ≡ a.0) ⊎ (x.0 ≡ a.0 → ⊥) → (x.0 ≡ b.0) ⊎ (x.0 ≡ b.0 → ⊥) → In a (x ∷ r) → In b (x ∷ r) → (In a r → In b r → (a.0 ≡ b.0 → ⊥) → stands_before r a b ≡ false → stands_before r b a ≡ true) → stands_before (x ∷ r) b a ≡ true
     by_first o (inl f) k l before =
         or_left (eqb x.0 b.0 && not (eqb b.0 a.0)) (not (eqb x.0 a.0) && stands_before r b a)
@@ -236,14 +233,15 @@ to_filter test (y ∷ ys) x (inr i) e = by_test (test y) (to_filter test ys x i 
     by_test true j = inr j
     by_test false j = j
 
-from_filter : {X : Type 0} (test : X → Bool) (xs : List X) (x : X) → In x (filter test xs) → In x xs
+from_filter : {X : Type 0} (test : X → Bool) (xs : List X) (x : X) → In x (filter test xs) → In x xs × (test x ≡ true)
 from_filter test [] x i = absurd i
-from_filter test (y ∷ ys) x i = by_test (test y) i (from_filter test ys x)
+from_filter test (y ∷ ys) x i = by_test (test y) refl i (from_filter test ys x)
   where
-    by_test : (b : Bool) → In x (cond b (y ∷ filter test ys) (filter test ys)) → (In x (filter test ys) → In x ys) → In x (y ∷ ys)
-    by_test true (inl e) later = inl e
-    by_test true (inr j) later = inr (later j)
-    by_test false j later = inr (later j)
+    by_test : (b : Bool) → test y ≡ b → In x (cond b (y ∷ filter test ys) (filter test ys))
+        → (In x (filter test ys) → In x ys × (test x ≡ true)) → In x (y ∷ ys) × (test x ≡ true)
+    by_test true e (inl same) later = (inl same, ap test same ∙ e)
+    by_test true e (inr j) later = let rest = later j in (inr rest.0, rest.1)
+    by_test false e j later = let rest = later j in (inr rest.0, rest.1)
 
 all_of : {X : Type 0} (P : X → Type 0) (xs : List X) → ((x : X) → In x xs → P x) → All P xs
 all_of P xs each = λ k d h. each (get_or xs k d) (in_at xs k d h)
@@ -256,7 +254,7 @@ filter_beside test (c ∷ cs) beside = by_test (test c) (filter_beside test cs b
     off t there = false_from (is_on_runs (filter test cs) t.seg.0) (λ e. by_run (any_at (λ (d : Chain). list_any (λ (u : ChainStep). eqb u.seg.0 t.seg.0) d.steps) (filter test cs) e))
       where
         by_run : (d : Chain) × In d (filter test cs) × (list_any (λ (u : ChainStep). eqb u.seg.0 t.seg.0) d.steps ≡ true) → ⊥
-        by_run (d, i, e) = true≢false (sym (any_from (λ (x : Chain). list_any (λ (u : ChainStep). eqb u.seg.0 t.seg.0) x.steps) cs d (from_filter test cs d i) e) ∙ beside.0 t there)
+        by_run (d, i, e) = true≢false (sym (any_from (λ (x : Chain). list_any (λ (u : ChainStep). eqb u.seg.0 t.seg.0) x.steps) cs d (from_filter test cs d i).0 e) ∙ beside.0 t there)
 
     by_test : (b : Bool) → AreBeside (filter test cs) → AreBeside (cond b (c ∷ filter test cs) (filter test cs))
     by_test true rest = (off, rest)
@@ -266,7 +264,7 @@ module _ (graph : GraphParts) (fit : IsConsistent graph) (runs : List Chain) (ru
   -- nodes that are served move by an even number of steps
   served_fitting : (nodes : List NodeId) (d : Dir) (count : ℕ) → ((n : NodeId) → In n nodes → IsServed graph runs n) → count % 2 ≡ 0 → IsFitting graph (record { nodes = nodes; dir = d; count = count; runs = runs_at nodes runs })
   served_fitting nodes d count served even = record {
-    runs = all_of (IsRun graph) (runs_at nodes runs) (λ c i. run c (from_filter test runs c i));
+    runs = all_of (IsRun graph) (runs_at nodes runs) (λ c i. run c (from_filter test runs c i).0);
     beside = filter_beside test runs beside;
     nodes = all_of (λ (n : NodeId). n.0 < length graph.kinds) nodes (λ n i. (served n i).node);
     ends = all_of (λ (n : NodeId). is_inner (runs_at nodes runs) n.0 ≡ false) nodes (λ n i. outer n i);
@@ -283,7 +281,7 @@ module _ (graph : GraphParts) (fit : IsConsistent graph) (runs : List Chain) (ru
           by_run : (c : Chain) × In c (runs_at nodes runs) × (has_node (inner_nodes c.steps) n.0 ≡ true) → ⊥
           by_run (c, j, e) =
               let at = any_at (λ (m : NodeId). eqb m.0 n.0) (inner_nodes c.steps) e in
-              (served n i).outer c (from_filter test runs c j) at.0 at.1 (eqb-true at.0.0 n.0 at.2)
+              (served n i).outer c (from_filter test runs c j).0 at.0 at.1 (eqb-true at.0.0 n.0 at.2)
 
       there : (n : NodeId) → In n nodes → has_node nodes n.0 ≡ true
       there n i = any_from (λ (m : NodeId). eqb m.0 n.0) nodes n i (eq-eqb n.0 n.0 refl)
@@ -403,19 +401,10 @@ module _ (graph : GraphParts) (fit : IsConsistent graph) (cell : ℕ) where
       node_of : (n : NodeId) → In n (nodes_of graph) → n.0 < length graph.kinds
       node_of n j = let r = from_range 0 (length graph.kinds) n j in omega (arith, r.1)
 
-      passes : (test : NodeId → Bool) (ns : List NodeId) (n : NodeId) → In n (filter test ns) → test n ≡ true
-      passes test [] n j = absurd j
-      passes test (m ∷ ns) n j = by_test (test m) refl j (passes test ns n)
-        where
-          by_test : (b : Bool) → test m ≡ b → In n (cond b (m ∷ filter test ns) (filter test ns)) → (In n (filter test ns) → test n ≡ true) → test n ≡ true
-          by_test true e (inl same) later = ap test same ∙ e
-          by_test true e (inr k) later = later k
-          by_test false e k later = later k
-
       by_rest : In a (moves_over (chains_of graph corners) (filter (is_corner corners) (nodes_of graph))) ⊎ In a (moves_over (single_runs graph) (nodes_of graph)) → IsFitting graph a
       by_rest (inl j) =
           over_fitting graph fit (chains_of graph corners) (λ c k. (chain_run graph fit cell c k).0) (corner_chains_beside graph fit cell) (filter (is_corner corners) (nodes_of graph))
-          (λ n k. corner_served graph fit corners has n (node_of n (from_filter (is_corner corners) (nodes_of graph) n k)) (passes (is_corner corners) (nodes_of graph) n k)) chain_ends a j
+          (λ n k. (let there = from_filter (is_corner corners) (nodes_of graph) n k in corner_served graph fit corners has n (node_of n there.0) there.1)) chain_ends a j
       by_rest (inr j) =
           over_fitting graph fit (single_runs graph) (λ c k. let at = single_is graph c k in subst (IsRun graph) (sym at.2) (single_run graph fit at.0 at.1)) (singles_beside graph 0 (length graph.ends)) (nodes_of graph)
           (λ n k. node_served graph fit n (node_of n k)) single_ends a j

@@ -1,5 +1,5 @@
 -- Ways from their ends, and two ways that share a step.
-use Rattle.std.proofs.Common.{◌≡◌, refl, sym, ◌∙◌, ap, subst, ℕ, zero, suc, ◌+◌, ◌<◌, Bool, true, false, List, [], ◌∷◌, ◌++◌, length, length-append, get_or, Contains, ◌⊎◌, inl, inr, arith}
+use Rattle.std.proofs.Common.{◌≡◌, refl, sym, ◌∙◌, ap, subst, ℕ, zero, suc, ◌+◌, ◌<◌, Bool, List, [], ◌∷◌, ◌++◌, length, length-append, get_or, Contains, ◌⊎◌, inl, inr, arith}
 use Rattle.std.proofs.lemmas.Bool.{true≢false}
 use Rattle.map_base.specs.declared.ids.NodeId.{NodeId}
 use Rattle.map_base.specs.declared.ids.SegId.{SegId}
@@ -124,9 +124,6 @@ first_at_zero graph n (t ∷ ts) steps d some = ((first_of_steps graph n t ts st
 pub record ComesFrom (graph : GraphParts) (n : NodeId) (ts : List ChainStep) (i : ℕ) (d : ChainStep) : Type 0 where
   pub node : NodeId
   pub leads : LeadsTo graph node (get_or ts i d)
-
-same_node : (a b : NodeId) → a.0 ≡ b.0 → a ≡ b
-same_node a b e = ap (λ k. (let n : NodeId = record { 0 = k } in n)) e
 
 pub leads_one : (graph : GraphParts) (x y : NodeId) (q p : ChainStep) → LeadsTo graph x q → LeadsTo graph y p → q.seg ≡ p.seg → q.to ≡ p.to → x ≡ y
 leads_one graph x y q p (inl e) (inl f) s t = ap (λ (z : NodeId × NodeId). z.0) (sym e ∙ ap (ends_of graph) s ∙ f)

@@ -1,4 +1,5 @@
 use Rattle.std.proofs.Common.{◌≡◌, ℤ, length, true, eq-eqb, FitsSigned, rules, w64, to_z, of_z, sym, ◌∙◌, ap, subst, arith}
+use Rattle.std.proofs.lemmas.Bool.{or_right}
 use Rattle.std.proofs.lemmas.List.{with_items_is}
 use Rattle.std.specs.Vec.{with_items}
 use Rattle.std.specs.Prelude.{int_lt, ◌||◌, ◌==◌}
@@ -7,7 +8,7 @@ use Rattle.order_model.specs.declared.problem.ProblemParts.{ProblemParts}
 use Rattle.dual_ascent.specs.DualSteps.{AreWithin}
 use Rattle.dual_orders.proofs.Pricing.{length_within}
 use Rattle.kept_trees.specs.Searching.{ascent_of}
-use Rattle.kept_trees.proofs.Composing.{kept_value, or_second}
+use Rattle.kept_trees.proofs.Composing.{kept_value}
 use Rattle.kept_trees.proofs.ascent.keep_value.Goals as goal
 use Rattle.kept_trees.proofs.ascent.keep_value.Goals.{then-ascent-eq1, else-ascent-eq1}
 
@@ -31,7 +32,7 @@ returns-then-ascent-value-clause-kept c =
       | then-ascent-eq1 w ↦ ap (λ b. b || int_lt earlier c.args.value)
           (eq-eqb c.args.ascent.now.round 1 w.if-ascent-eq1.true)
       | else-ascent-eq1 w ↦
-          or_second (c.args.ascent.now.round == 1) (int_lt earlier c.args.value)
+          or_right (c.args.ascent.now.round == 1) (int_lt earlier c.args.value)
           (sym (w.value-is
           ∙ (ap (λ (v : ℤ). int_lt v (to_z w64 (of_z w64 c.args.value))) same_earlier
           ∙ ap (λ (v : ℤ). int_lt earlier v) same)) ∙ c.if-ascent-value.true)

@@ -14,19 +14,25 @@ use Rattle.kept_trees.specs.Searching.{ascent_of}
 use Rattle.kept_trees.proofs.Composing.{with_averages}
 use Rattle.kept_trees.proofs.ascent.look.Goals as goal
 
+-- the averages that are kept
+averaged : (c : goal.After-average_in)
+    → averages_of (with_items c.args.ascent.now.averages c.average_in.new.averages).items
+    ≡ averages_after c.args.search.now.part.problem.now c.args.ascent.now.round c.args.orders.now
+    (averages_of c.args.ascent.now.averages.items)
+averaged c =
+    ap averages_of
+    (with_items_is c.args.ascent.now.averages c.average_in.new.averages
+    (c.average_in.auto.averages ∙ c.as_mut_slice.ensures.len))
+    ∙ c.average_in.ensures.value
+    ∙ ap (λ l. averages_after c.args.search.now.part.problem.now c.args.ascent.now.round c.args.orders.now (averages_of l))
+    c.as_mut_slice.ensures.value
+
 pub keep_value-requires-clause-ascent : goal.keep_value-requires-clause-ascent
 keep_value-requires-clause-ascent c =
     let p : ProblemParts = c.args.search.now.part.problem.now in
     let r = c.requires.ascent in
     let earlier = averages_of c.args.ascent.now.averages.items in
-    let is : averages_of (with_items c.args.ascent.now.averages c.average_in.new.averages).items
-    ≡ averages_after p c.args.ascent.now.round c.args.orders.now earlier =
-    ap averages_of
-    (with_items_is c.args.ascent.now.averages c.average_in.new.averages
-    (c.average_in.auto.averages ∙ c.as_mut_slice.ensures.len))
-    ∙ (c.average_in.ensures.value
-    ∙ ap (λ l. averages_after p c.args.ascent.now.round c.args.orders.now (averages_of l))
-    c.as_mut_slice.ensures.value) in
+    let is = averaged (goal.at.keep_value-requires-clause-ascent c).After-average_in in
     record {
       prices = r.prices;
       kept = r.kept;
@@ -45,16 +51,7 @@ keep_value-requires-clause-ascent c =
 
 pub returns-clause-looked : goal.returns-clause-looked
 returns-clause-looked c =
-    let p : ProblemParts = c.args.search.now.part.problem.now in
-    let earlier = averages_of c.args.ascent.now.averages.items in
-    let is : averages_of (with_items c.args.ascent.now.averages c.average_in.new.averages).items
-    ≡ averages_after p c.args.ascent.now.round c.args.orders.now earlier =
-    ap averages_of
-    (with_items_is c.args.ascent.now.averages c.average_in.new.averages
-    (c.average_in.auto.averages ∙ c.as_mut_slice.ensures.len))
-    ∙ (c.average_in.ensures.value
-    ∙ ap (λ l. averages_after p c.args.ascent.now.round c.args.orders.now (averages_of l))
-    c.as_mut_slice.ensures.value) in
+    let is = averaged (goal.at.returns-clause-looked c).After-average_in in
     let same : to_z w64 (of_z w64 c.args.value)
     ≡ c.args.value = to_z-of_z w64 c.args.value (record { sfits = c.ranges.value.sfits }) in
     λ now. c.keep_value.ensures.kept now

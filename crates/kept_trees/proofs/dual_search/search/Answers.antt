@@ -1,15 +1,13 @@
-use Rattle.std.proofs.Common.{◌≡◌, ◌≤◌, [], List, rules, refl, sym, ◌∙◌, ap, subst, arith, Option}
+use Rattle.std.proofs.Common.{◌≡◌, ◌≤◌, [], List, Option, rules, refl, sym, ◌∙◌, ap, subst, arith}
 use Rattle.order_model.specs.declared.problem.ProblemParts.{ProblemParts}
 use Rattle.dual_bound.specs.declared.settled.SettledPair.{SettledPair}
 use Rattle.dual_ascent.specs.OwnNumbers.{zeros}
 use Rattle.dual_ascent.specs.DualSteps.{AreWithin}
 use Rattle.dual_ascent.specs.Rounds as rounds
 use Rattle.dual_ascent.specs.Walks as walks
-use Rattle.dual_ascent.specs.DualResults.{DualResult, most_forks, result_after, dual_result}
+use Rattle.dual_ascent.specs.DualResults.{most_forks, root_rounds, result_after, dual_result}
 use Rattle.dual_ascent.proofs.Pricing.{zeros_within}
 use Rattle.dual_orders.specs.Values.{incumbent_of}
-use Rattle.dual_ascent.specs.OpenPairs.{OpenPair}
-use Rattle.dual_orders.specs.NextPairs.{IsForkAt}
 use Rattle.dual_orders.specs.SettledPairs.{pairs_of}
 use Rattle.kept_trees.specs.declared.walked.WalkedTree.{WalkedTree}
 use Rattle.kept_trees.specs.declared.walk.NodeEnd.{NodeEnd}
@@ -17,19 +15,69 @@ use Rattle.kept_trees.specs.Searching.{ascent_of, bound_of, progress_of, plain_w
 use Rattle.kept_trees.proofs.Beginning.{zero_prices}
 use Rattle.kept_trees.proofs.Composing.{few_prices, incumbent_within}
 use Rattle.kept_trees.proofs.Walking.{err_all}
-use Rattle.kept_trees.proofs.RootNodes.{root_are, spent_is, stop_is, over_few, result_of, fork_is, fork_few, searched, found_by, shown_by, steps_by}
+use Rattle.kept_trees.proofs.RootNodes.{searched, root, root_are, spent_is, stop_is, over_few}
+use Rattle.kept_trees.proofs.RootNodes.{result_of, fork_is, fork_few, told_by}
 use Rattle.kept_trees.proofs.dual_search.search.Goals as goal
+
+-- the root begins with prices that are all 0
+no_prices : (g : _) (c : goal.After-as_slice g) → c.as_slice.result.now ≡ zeros c.in_ok-part.part.problem.now
+no_prices g c =
+    c.as_slice.ensures.value
+    ∙ c.in_ok-prices.ensures.items_if_clones_equal (search rules)
+    ∙ zero_prices c.in_ok-part.part.problem.now c.args.problem.now c.terms.result.now c.in_ok-part.ensures.same
+    c.terms.ensures.list
+
+-- what its rounds come to
+root_after : (g : _) (c : goal.After-ascend g) (s : rounds.Stage)
+    → rounds.closed (searched c.in_ok-part.part.problem.now c.args.budget) (pairs_of c.as_slice-2.result.now)
+    (rounds.rounds (searched c.in_ok-part.part.problem.now c.args.budget) (pairs_of c.as_slice-2.result.now) root_rounds
+    (ascent_of c.in_ok-now.now c.in_ok-root.root)) ≡ s
+    → root c.in_ok-part.part.problem.now c.args.budget ≡ s
+root_after g c s =
+    root_are c.in_ok-part.part.problem.now c.args.budget c.as_slice-2.result.now
+    (ascent_of c.in_ok-now.now c.in_ok-root.root) c.as_slice.result.now (incumbent_of c.in_ok-now.now.incumbent)
+    c.in_ok-now.now.branches s (c.as_slice-2.ensures.value ∙ c.new-settled.ensures.items)
+    (c.in_ok-root.ensures.first c.in_ok-now.now) (no_prices g (goal.at.After-ascend g c).After-as_slice)
+    c.in_ok-now.ensures.first c.in_ok-now.ensures.none
+
+root_over : (g : _) (c : goal.Else-not-ascend g)
+    → root c.in_ok-part.part.problem.now c.args.budget ≡ rounds.over (ascent_of c.ascend.new.now c.ascend.new.ascent)
+root_over g c =
+    root_after g (goal.at.Else-not-ascend g c).After-ascend (rounds.over (ascent_of c.ascend.new.now c.ascend.new.ascent))
+    (c.if-not-ascend.ensures.over refl)
+
+-- what it then is
+root_end : (g : _) (c : goal.In_ok-tree g)
+    → EndIs c.in_ok-part.part.problem.now [] (ascent_of c.ascend.new.now c.ascend.new.ascent)
+    (progress_of c.node_end.new.now) c.in_ok-tree.field-0
+root_end g c =
+    subst (λ (l : List SettledPair). EndIs c.in_ok-part.part.problem.now (pairs_of l)
+    (ascent_of c.ascend.new.now c.ascend.new.ascent) (progress_of c.node_end.new.now) c.in_ok-tree.field-0)
+    (c.as_slice-3.ensures.value ∙ c.new-settled.ensures.items) c.in_ok-tree.ensures.end
+
+-- what comes of it where it is a fork
+forked : (g : _) (c : goal.In_ok-tree-in-Fork g)
+    → result_of (bound_of c.into_bound-bound.result) c.in_ok-tree-in-Fork.field-0 (progress_of c.fork.new.now)
+    ≡ dual_result c.in_ok-part.part.problem.now c.args.budget
+forked g c =
+    let p : ProblemParts = c.in_ok-part.part.problem.now in
+    let at = goal.at.In_ok-tree-in-Fork g c in
+    let a : rounds.Ascent = ascent_of c.ascend.new.now c.ascend.new.ascent in
+    let next : walks.Progress = progress_of c.node_end.new.now in
+    let later : walks.Progress = progress_of c.fork.new.now in
+    let bound : rounds.LowerBound = bound_of c.into_bound-bound.result in
+    fork_is p c.args.budget a bound next (root_over g at.Else-not-ascend) c.into_bound-bound.ensures c.in-Fork.pair
+    c.in_ok-tree-in-Fork.field-0 later
+    (subst (λ (x : NodeEnd). EndIs p [] a next x) c.in-Fork.is (root_end g at.In_ok-tree))
+    (λ d is. subst (λ (l : List SettledPair). WalkIs c.in_ok-tree-in-Fork.field-0 later
+    (fork_at (searched p c.args.budget) most_forks d bound (pairs_of l) next)) c.new-settled.ensures.items
+    (c.in_ok-tree-in-Fork.ensures.walked d is))
 
 pub first_ascent-requires-clause-prices : goal.first_ascent-requires-clause-prices
 first_ascent-requires-clause-prices g c =
     let p : ProblemParts = c.in_ok-part.part.problem.now in
-    let whole : ProblemParts = c.args.problem.now in
-    let same : p ≡ whole = c.in_ok-part.ensures.same in
-    let prices : c.as_slice.result.now ≡ zeros p =
-    c.as_slice.ensures.value
-    ∙ (c.in_ok-prices.ensures.items_if_clones_equal (search rules)
-    ∙ zero_prices p whole c.terms.result.now same c.terms.ensures.list) in
-    subst (AreWithin p.terms) (sym prices) (zeros_within p.terms)
+    let none = no_prices g (goal.at.first_ascent-requires-clause-prices g c).After-as_slice in
+    subst (AreWithin p.terms) (sym none) (zeros_within p.terms)
 
 pub spent-requires : goal.spent-requires
 spent-requires g c =
@@ -41,57 +89,23 @@ spent-requires g c =
 pub returns-then-not-ascend : goal.returns-then-not-ascend
 returns-then-not-ascend g c =
     let p : ProblemParts = c.in_ok-part.part.problem.now in
-    let whole : ProblemParts = c.args.problem.now in
-    let same : p ≡ whole = c.in_ok-part.ensures.same in
-    let prices : c.as_slice.result.now ≡ zeros p =
-    c.as_slice.ensures.value
-    ∙ (c.in_ok-prices.ensures.items_if_clones_equal (search rules)
-    ∙ zero_prices p whole c.terms.result.now same c.terms.ensures.list) in
     let a : rounds.Ascent = ascent_of c.ascend.new.now c.ascend.new.ascent in
-    let made =
-    root_are p c.args.budget c.as_slice-2.result.now (ascent_of c.in_ok-now.now c.in_ok-root.root) c.as_slice.result.now
-    (incumbent_of c.in_ok-now.now.incumbent) c.in_ok-now.now.branches (rounds.spent a)
-    (c.as_slice-2.ensures.value ∙ c.new-settled.ensures.items)
-    (c.in_ok-root.ensures.first c.in_ok-now.now) prices c.in_ok-now.ensures.first c.in_ok-now.ensures.none
-    (c.if-not-ascend.ensures.spent refl) in
-    let steps = c.ascend.ensures.steps in
-    let none = c.in_ok-now.ensures.none in
     let bound : rounds.LowerBound = bound_of c.into_bound.result in
-    let left : DualResult = result_after bound (walks.cut (progress_of c.ascend.new.now)) in
-    let is : left ≡ dual_result whole c.args.budget =
-    spent_is p c.args.budget a bound made c.into_bound.ensures
-    ∙ ap (λ (x : ProblemParts). dual_result x c.args.budget) same in
-    let count = ap (λ (r : DualResult). r.branches) is in
-    record {
-      found = found_by c.spent.result left (dual_result whole c.args.budget) is c.spent.ensures;
-      shown = shown_by c.spent.result left whole c.args.budget c.terms.ensures.fits c.requires.some c.requires.reach
-          c.requires.budget is c.spent.ensures;
-      steps = steps_by c.spent.result left c.args.steps.now c.ascend.new.steps
-          (omega (arith, steps, none)) c.spent.ensures;
-      few_steps = err_all c.spent.result (omega (arith, steps, none, count));
-    }
+    let spent = root_after g (goal.at.returns-then-not-ascend g c).After-ascend (rounds.spent a)
+    (c.if-not-ascend.ensures.spent refl) in
+    let t = told_by c.spent.result (result_after bound (walks.cut (progress_of c.ascend.new.now))) p c.args.problem.now
+    c.args.budget c.args.steps.now c.ascend.new.steps c.in_ok-part.ensures.same c.terms.ensures.fits c.requires.some
+    c.requires.reach c.requires.budget (spent_is p c.args.budget a bound spent c.into_bound.ensures)
+    (omega (arith, c.ascend.ensures.steps, c.in_ok-now.ensures.none)) c.spent.ensures in
+    record { found = t.0; shown = t.1; steps = t.2; few_steps = t.3 }
 
 pub returns-in_err-tree-clause-few_steps : goal.returns-in_err-tree-clause-few_steps
 returns-in_err-tree-clause-few_steps g c =
-    let p : ProblemParts = c.in_ok-part.part.problem.now in
-    let whole : ProblemParts = c.args.problem.now in
-    let same : p ≡ whole = c.in_ok-part.ensures.same in
-    let prices : c.as_slice.result.now ≡ zeros p =
-    c.as_slice.ensures.value
-    ∙ (c.in_ok-prices.ensures.items_if_clones_equal (search rules)
-    ∙ zero_prices p whole c.terms.result.now same c.terms.ensures.list) in
-    let a : rounds.Ascent = ascent_of c.ascend.new.now c.ascend.new.ascent in
-    let made =
-    root_are p c.args.budget c.as_slice-2.result.now (ascent_of c.in_ok-now.now c.in_ok-root.root) c.as_slice.result.now
-    (incumbent_of c.in_ok-now.now.incumbent) c.in_ok-now.now.branches (rounds.over a)
-    (c.as_slice-2.ensures.value ∙ c.new-settled.ensures.items)
-    (c.in_ok-root.ensures.first c.in_ok-now.now) prices c.in_ok-now.ensures.first c.in_ok-now.ensures.none
-    (c.if-not-ascend.ensures.over refl) in
-    let steps = c.ascend.ensures.steps in
-    let none = c.in_ok-now.ensures.none in
-    let few = over_few p c.args.budget a made c.ascend.ensures.now.within in
-    let count = ap (λ (x : ProblemParts). (dual_result x c.args.budget).branches) same in
-    err_all c.from_residual-in_err-tree.result (omega (arith, steps, none, few, count))
+    let few = over_few c.in_ok-part.part.problem.now c.args.budget (ascent_of c.ascend.new.now c.ascend.new.ascent)
+    (root_over g (goal.at.returns-in_err-tree-clause-few_steps g c).Else-not-ascend) c.ascend.ensures.now.within in
+    let count = ap (λ (x : ProblemParts). (dual_result x c.args.budget).branches) c.in_ok-part.ensures.same in
+    err_all c.from_residual-in_err-tree.result
+    (omega (arith, c.ascend.ensures.steps, c.in_ok-now.ensures.none, few, count))
 
 pub complete-requires : goal.complete-requires
 complete-requires g c =
@@ -101,43 +115,17 @@ complete-requires g c =
 pub returns-in-Stop : goal.returns-in-Stop
 returns-in-Stop g c =
     let p : ProblemParts = c.in_ok-part.part.problem.now in
-    let whole : ProblemParts = c.args.problem.now in
-    let same : p ≡ whole = c.in_ok-part.ensures.same in
-    let prices : c.as_slice.result.now ≡ zeros p =
-    c.as_slice.ensures.value
-    ∙ (c.in_ok-prices.ensures.items_if_clones_equal (search rules)
-    ∙ zero_prices p whole c.terms.result.now same c.terms.ensures.list) in
+    let at = goal.at.returns-in-Stop g c in
     let a : rounds.Ascent = ascent_of c.ascend.new.now c.ascend.new.ascent in
-    let made =
-    root_are p c.args.budget c.as_slice-2.result.now (ascent_of c.in_ok-now.now c.in_ok-root.root) c.as_slice.result.now
-    (incumbent_of c.in_ok-now.now.incumbent) c.in_ok-now.now.branches (rounds.over a)
-    (c.as_slice-2.ensures.value ∙ c.new-settled.ensures.items)
-    (c.in_ok-root.ensures.first c.in_ok-now.now) prices c.in_ok-now.ensures.first c.in_ok-now.ensures.none
-    (c.if-not-ascend.ensures.over refl) in
-    let steps = c.ascend.ensures.steps in
-    let none = c.in_ok-now.ensures.none in
     let next : walks.Progress = progress_of c.node_end.new.now in
-    let end : EndIs p [] a next c.in_ok-tree.field-0 =
-    subst (λ (l : List SettledPair). EndIs p (pairs_of l) a next c.in_ok-tree.field-0)
-    (c.as_slice-3.ensures.value ∙ c.new-settled.ensures.items) c.in_ok-tree.ensures.end in
-    let ends = c.node_end.ensures.branches in
-    let stops : (f : Option walks.Below)
-    → walks.at_node p f [] a
-    ≡ walks.whole (plain_walked c.in-Stop.tree) next = subst
-    (λ (x : NodeEnd). EndIs p [] a next x) c.in-Stop.is end in
-    let left : DualResult = result_after a.bound (walks.whole (plain_walked c.in-Stop.tree) next) in
-    let is : left ≡ dual_result whole c.args.budget =
-    stop_is p c.args.budget a a.bound (plain_walked c.in-Stop.tree) next made stops
-    ∙ ap (λ (x : ProblemParts). dual_result x c.args.budget) same in
-    let count = ap (λ (r : DualResult). r.branches) is in
-    record {
-      found = found_by c.complete.result left (dual_result whole c.args.budget) is c.complete.ensures;
-      shown = shown_by c.complete.result left whole c.args.budget c.terms.ensures.fits c.requires.some c.requires.reach
-          c.requires.budget is c.complete.ensures;
-      steps = steps_by c.complete.result left c.args.steps.now c.ascend.new.steps
-          (omega (arith, steps, none, ends)) c.complete.ensures;
-      few_steps = err_all c.complete.result (omega (arith, steps, none, ends, count));
-    }
+    let tree : walks.WalkedTree = plain_walked c.in-Stop.tree in
+    let is = stop_is p c.args.budget a a.bound tree next (root_over g at.Else-not-ascend)
+    (subst (λ (x : NodeEnd). EndIs p [] a next x) c.in-Stop.is (root_end g at.In_ok-tree)) in
+    let t = told_by c.complete.result (result_after a.bound (walks.whole tree next)) p c.args.problem.now c.args.budget
+    c.args.steps.now c.ascend.new.steps c.in_ok-part.ensures.same c.terms.ensures.fits c.requires.some c.requires.reach
+    c.requires.budget is
+    (omega (arith, c.ascend.ensures.steps, c.in_ok-now.ensures.none, c.node_end.ensures.branches)) c.complete.ensures in
+    record { found = t.0; shown = t.1; steps = t.2; few_steps = t.3 }
 
 pub fork-requires-clause-search : goal.fork-requires-clause-search
 fork-requires-clause-search g c =
@@ -146,38 +134,21 @@ fork-requires-clause-search g c =
 pub returns-in_err-tree-in-Fork-clause-few_steps : goal.returns-in_err-tree-in-Fork-clause-few_steps
 returns-in_err-tree-in-Fork-clause-few_steps g c =
     let p : ProblemParts = c.in_ok-part.part.problem.now in
-    let whole : ProblemParts = c.args.problem.now in
-    let same : p ≡ whole = c.in_ok-part.ensures.same in
-    let prices : c.as_slice.result.now ≡ zeros p =
-    c.as_slice.ensures.value
-    ∙ (c.in_ok-prices.ensures.items_if_clones_equal (search rules)
-    ∙ zero_prices p whole c.terms.result.now same c.terms.ensures.list) in
+    let at = goal.at.returns-in_err-tree-in-Fork-clause-few_steps g c in
     let a : rounds.Ascent = ascent_of c.ascend.new.now c.ascend.new.ascent in
-    let made =
-    root_are p c.args.budget c.as_slice-2.result.now (ascent_of c.in_ok-now.now c.in_ok-root.root) c.as_slice.result.now
-    (incumbent_of c.in_ok-now.now.incumbent) c.in_ok-now.now.branches (rounds.over a)
-    (c.as_slice-2.ensures.value ∙ c.new-settled.ensures.items)
-    (c.in_ok-root.ensures.first c.in_ok-now.now) prices c.in_ok-now.ensures.first c.in_ok-now.ensures.none
-    (c.if-not-ascend.ensures.over refl) in
-    let steps = c.ascend.ensures.steps in
-    let none = c.in_ok-now.ensures.none in
     let next : walks.Progress = progress_of c.node_end.new.now in
-    let end : EndIs p [] a next c.in_ok-tree.field-0 =
-    subst (λ (l : List SettledPair). EndIs p (pairs_of l) a next c.in_ok-tree.field-0)
-    (c.as_slice-3.ensures.value ∙ c.new-settled.ensures.items) c.in_ok-tree.ensures.end in
-    let ends = c.node_end.ensures.branches in
     let later : walks.Progress = progress_of c.fork.new.now in
     let bound : rounds.LowerBound = bound_of c.into_bound-bound.result in
-    let forks = subst (λ (x : NodeEnd). EndIs p [] a next x) c.in-Fork.is end in
-    let more = c.fork.ensures.steps in
-    let few =
-    fork_few p c.args.budget a bound next made c.into_bound-bound.ensures c.in-Fork.pair later.branches forks
-    (λ d at. subst
-    (λ (l : List SettledPair). later.branches ≤ counted
-    (fork_at (searched p c.args.budget) most_forks d bound (pairs_of l) next)) c.new-settled.ensures.items
-    (c.in_err-tree-in-Fork.ensures.few d at)) in
-    let count = ap (λ (x : ProblemParts). (dual_result x c.args.budget).branches) same in
-    err_all c.from_residual-in_err-tree-in-Fork.result (omega (arith, steps, none, ends, more, few, count))
+    let few = fork_few p c.args.budget a bound next (root_over g at.Else-not-ascend) c.into_bound-bound.ensures
+    c.in-Fork.pair later.branches
+    (subst (λ (x : NodeEnd). EndIs p [] a next x) c.in-Fork.is (root_end g at.In_ok-tree))
+    (λ d is. subst (λ (l : List SettledPair). later.branches
+    ≤ counted (fork_at (searched p c.args.budget) most_forks d bound (pairs_of l) next)) c.new-settled.ensures.items
+    (c.in_err-tree-in-Fork.ensures.few d is)) in
+    let count = ap (λ (x : ProblemParts). (dual_result x c.args.budget).branches) c.in_ok-part.ensures.same in
+    let made = c.ascend.ensures.steps in
+    err_all c.from_residual-in_err-tree-in-Fork.result
+    (omega (arith, made, c.in_ok-now.ensures.none, c.node_end.ensures.branches, c.fork.ensures.steps, few, count))
 
 pub complete-requires-in-Some : goal.complete-requires-in-Some
 complete-requires-in-Some g c =
@@ -187,50 +158,17 @@ complete-requires-in-Some g c =
 pub returns-in-Some : goal.returns-in-Some
 returns-in-Some g c =
     let p : ProblemParts = c.in_ok-part.part.problem.now in
-    let whole : ProblemParts = c.args.problem.now in
-    let same : p ≡ whole = c.in_ok-part.ensures.same in
-    let prices : c.as_slice.result.now ≡ zeros p =
-    c.as_slice.ensures.value
-    ∙ (c.in_ok-prices.ensures.items_if_clones_equal (search rules)
-    ∙ zero_prices p whole c.terms.result.now same c.terms.ensures.list) in
-    let a : rounds.Ascent = ascent_of c.ascend.new.now c.ascend.new.ascent in
-    let made =
-    root_are p c.args.budget c.as_slice-2.result.now (ascent_of c.in_ok-now.now c.in_ok-root.root) c.as_slice.result.now
-    (incumbent_of c.in_ok-now.now.incumbent) c.in_ok-now.now.branches (rounds.over a)
-    (c.as_slice-2.ensures.value ∙ c.new-settled.ensures.items)
-    (c.in_ok-root.ensures.first c.in_ok-now.now) prices c.in_ok-now.ensures.first c.in_ok-now.ensures.none
-    (c.if-not-ascend.ensures.over refl) in
-    let steps = c.ascend.ensures.steps in
-    let none = c.in_ok-now.ensures.none in
-    let next : walks.Progress = progress_of c.node_end.new.now in
-    let end : EndIs p [] a next c.in_ok-tree.field-0 =
-    subst (λ (l : List SettledPair). EndIs p (pairs_of l) a next c.in_ok-tree.field-0)
-    (c.as_slice-3.ensures.value ∙ c.new-settled.ensures.items) c.in_ok-tree.ensures.end in
-    let ends = c.node_end.ensures.branches in
     let later : walks.Progress = progress_of c.fork.new.now in
     let bound : rounds.LowerBound = bound_of c.into_bound-bound.result in
-    let forks = subst (λ (x : NodeEnd). EndIs p [] a next x) c.in-Fork.is end in
-    let more = c.fork.ensures.steps in
-    let walked : (d : OpenPair) → IsForkAt d c.in-Fork.pair
-    → WalkIs c.in_ok-tree-in-Fork.field-0 later (fork_at (searched p c.args.budget) most_forks d bound [] next) =
-    λ d at. subst
-    (λ (l : List SettledPair). WalkIs c.in_ok-tree-in-Fork.field-0 later
-    (fork_at (searched p c.args.budget) most_forks d bound (pairs_of l) next)) c.new-settled.ensures.items
-    (c.in_ok-tree-in-Fork.ensures.walked d at) in
-    let left : DualResult = result_after bound (walks.whole (plain_walked c.in-Some.tree) later) in
-    let is : left ≡ dual_result whole c.args.budget =
-    ap (λ (w : Option WalkedTree). result_of bound w later) (sym c.in-Some.is)
-    ∙ (fork_is p c.args.budget a bound next made c.into_bound-bound.ensures c.in-Fork.pair c.in_ok-tree-in-Fork.field-0
-    later forks walked ∙ ap (λ (x : ProblemParts). dual_result x c.args.budget) same) in
-    let count = ap (λ (r : DualResult). r.branches) is in
-    record {
-      found = found_by c.complete-in-Some.result left (dual_result whole c.args.budget) is c.complete-in-Some.ensures;
-      shown = shown_by c.complete-in-Some.result left whole c.args.budget c.terms.ensures.fits c.requires.some
-          c.requires.reach c.requires.budget is c.complete-in-Some.ensures;
-      steps = steps_by c.complete-in-Some.result left c.args.steps.now c.fork.new.steps
-          (omega (arith, steps, none, ends, more)) c.complete-in-Some.ensures;
-      few_steps = err_all c.complete-in-Some.result (omega (arith, steps, none, ends, more, count));
-    }
+    let is = ap (λ (w : Option WalkedTree). result_of bound w later) (sym c.in-Some.is)
+    ∙ forked g (goal.at.returns-in-Some g c).In_ok-tree-in-Fork in
+    let made = c.ascend.ensures.steps in
+    let t = told_by c.complete-in-Some.result (result_after bound (walks.whole (plain_walked c.in-Some.tree) later)) p
+    c.args.problem.now c.args.budget c.args.steps.now c.fork.new.steps c.in_ok-part.ensures.same c.terms.ensures.fits
+    c.requires.some c.requires.reach c.requires.budget is
+    (omega (arith, made, c.in_ok-now.ensures.none, c.node_end.ensures.branches, c.fork.ensures.steps))
+    c.complete-in-Some.ensures in
+    record { found = t.0; shown = t.1; steps = t.2; few_steps = t.3 }
 
 pub spent-requires-in-None : goal.spent-requires-in-None
 spent-requires-in-None g c =
@@ -242,47 +180,14 @@ spent-requires-in-None g c =
 pub returns : goal.returns
 returns g c =
     let p : ProblemParts = c.in_ok-part.part.problem.now in
-    let whole : ProblemParts = c.args.problem.now in
-    let same : p ≡ whole = c.in_ok-part.ensures.same in
-    let prices : c.as_slice.result.now ≡ zeros p =
-    c.as_slice.ensures.value
-    ∙ (c.in_ok-prices.ensures.items_if_clones_equal (search rules)
-    ∙ zero_prices p whole c.terms.result.now same c.terms.ensures.list) in
-    let a : rounds.Ascent = ascent_of c.ascend.new.now c.ascend.new.ascent in
-    let made =
-    root_are p c.args.budget c.as_slice-2.result.now (ascent_of c.in_ok-now.now c.in_ok-root.root) c.as_slice.result.now
-    (incumbent_of c.in_ok-now.now.incumbent) c.in_ok-now.now.branches (rounds.over a)
-    (c.as_slice-2.ensures.value ∙ c.new-settled.ensures.items)
-    (c.in_ok-root.ensures.first c.in_ok-now.now) prices c.in_ok-now.ensures.first c.in_ok-now.ensures.none
-    (c.if-not-ascend.ensures.over refl) in
-    let steps = c.ascend.ensures.steps in
-    let none = c.in_ok-now.ensures.none in
-    let next : walks.Progress = progress_of c.node_end.new.now in
-    let end : EndIs p [] a next c.in_ok-tree.field-0 =
-    subst (λ (l : List SettledPair). EndIs p (pairs_of l) a next c.in_ok-tree.field-0)
-    (c.as_slice-3.ensures.value ∙ c.new-settled.ensures.items) c.in_ok-tree.ensures.end in
-    let ends = c.node_end.ensures.branches in
     let later : walks.Progress = progress_of c.fork.new.now in
     let bound : rounds.LowerBound = bound_of c.into_bound-bound.result in
-    let forks = subst (λ (x : NodeEnd). EndIs p [] a next x) c.in-Fork.is end in
-    let more = c.fork.ensures.steps in
-    let walked : (d : OpenPair) → IsForkAt d c.in-Fork.pair
-    → WalkIs c.in_ok-tree-in-Fork.field-0 later (fork_at (searched p c.args.budget) most_forks d bound [] next) =
-    λ d at. subst
-    (λ (l : List SettledPair). WalkIs c.in_ok-tree-in-Fork.field-0 later
-    (fork_at (searched p c.args.budget) most_forks d bound (pairs_of l) next)) c.new-settled.ensures.items
-    (c.in_ok-tree-in-Fork.ensures.walked d at) in
-    let left : DualResult = result_after bound (walks.cut later) in
-    let is : left ≡ dual_result whole c.args.budget =
-    ap (λ (w : Option WalkedTree). result_of bound w later) (sym c.in-None.is)
-    ∙ (fork_is p c.args.budget a bound next made c.into_bound-bound.ensures c.in-Fork.pair c.in_ok-tree-in-Fork.field-0
-    later forks walked ∙ ap (λ (x : ProblemParts). dual_result x c.args.budget) same) in
-    let count = ap (λ (r : DualResult). r.branches) is in
-    record {
-      found = found_by c.spent-in-None.result left (dual_result whole c.args.budget) is c.spent-in-None.ensures;
-      shown = shown_by c.spent-in-None.result left whole c.args.budget c.terms.ensures.fits c.requires.some
-          c.requires.reach c.requires.budget is c.spent-in-None.ensures;
-      steps = steps_by c.spent-in-None.result left c.args.steps.now c.fork.new.steps
-          (omega (arith, steps, none, ends, more)) c.spent-in-None.ensures;
-      few_steps = err_all c.spent-in-None.result (omega (arith, steps, none, ends, more, count));
-    }
+    let is = ap (λ (w : Option WalkedTree). result_of bound w later) (sym c.in-None.is)
+    ∙ forked g (goal.at.returns g c).In_ok-tree-in-Fork in
+    let made = c.ascend.ensures.steps in
+    let t = told_by c.spent-in-None.result (result_after bound (walks.cut later)) p c.args.problem.now c.args.budget
+    c.args.steps.now c.fork.new.steps c.in_ok-part.ensures.same c.terms.ensures.fits c.requires.some c.requires.reach
+    c.requires.budget is
+    (omega (arith, made, c.in_ok-now.ensures.none, c.node_end.ensures.branches, c.fork.ensures.steps))
+    c.spent-in-None.ensures in
+    record { found = t.0; shown = t.1; steps = t.2; few_steps = t.3 }

@@ -13,6 +13,22 @@ use Rattle.kept_trees.specs.Searching.{search_of, ascent_of}
 use Rattle.kept_trees.proofs.Composing.{turn_moves, turn_stills}
 use Rattle.kept_trees.proofs.rounds.turn.Goals as goal
 
+-- the directions follow, and this is the sum of their squares
+turned : (c : goal.After-square_sum)
+    → ((with_items c.args.ascent.now.directions c.direct.new.directions).items
+    ≡ next_directions c.args.search.now.part.problem.now c.args.orders.now c.args.ascent.now.prices.items
+    c.args.ascent.now.directions.items)
+    × (c.square_sum.result ≡ square_sum (with_items c.args.ascent.now.directions c.direct.new.directions).items)
+turned c =
+    let p : ProblemParts = c.args.search.now.part.problem.now in (
+      with_items_is c.args.ascent.now.directions c.direct.new.directions
+          (c.direct.auto.directions ∙ c.as_mut_slice.ensures.len)
+          ∙ c.direct.ensures.value
+          ∙ ap (λ (l : List ℤ). next_directions p c.args.orders.now l c.as_mut_slice.result.now) c.as_slice.ensures.value
+          ∙ ap (next_directions p c.args.orders.now c.args.ascent.now.prices.items) c.as_mut_slice.ensures.value,
+      c.square_sum.ensures.value ∙ ap square_sum c.as_slice-2.ensures.value,
+    )
+
 pub direct-requires-clause-orders : goal.direct-requires-clause-orders
 direct-requires-clause-orders c = sym
     (length-orders c.args.search.now.part.problem.now.segs c.args.orders.now c.requires.orders)
@@ -24,22 +40,10 @@ direct-requires-clause-prices c =
 
 pub returns-then-square_sum-gt0-clause-over : goal.returns-then-square_sum-gt0-clause-over
 returns-then-square_sum-gt0-clause-over c =
-    let p : ProblemParts = c.args.search.now.part.problem.now in
-    let is : (with_items c.args.ascent.now.directions c.direct.new.directions).items
-    ≡ next_directions p c.args.orders.now c.args.ascent.now.prices.items c.args.ascent.now.directions.items =
-    with_items_is c.args.ascent.now.directions c.direct.new.directions
-    (c.direct.auto.directions ∙ c.as_mut_slice.ensures.len)
-    ∙ (c.direct.ensures.value
-    ∙ (ap (λ (l : List ℤ). next_directions p c.args.orders.now l c.as_mut_slice.result.now) c.as_slice.ensures.value
-    ∙ ap (λ (l : List ℤ). next_directions p c.args.orders.now c.args.ascent.now.prices.items l)
-    c.as_mut_slice.ensures.value)) in
-    let sum : c.square_sum.result
-    ≡ square_sum
-    (with_items c.args.ascent.now.directions c.direct.new.directions).items = c.square_sum.ensures.value
-    ∙ ap square_sum c.as_slice-2.ensures.value in
+    let t = turned (goal.at.returns-then-square_sum-gt0-clause-over c).After-square_sum in
     turn_moves (search_of c.args.search.now) c.args.orders.now (ascent_of c.args.now.now c.args.ascent.now)
-    (with_items c.args.ascent.now.directions c.direct.new.directions).items is
-    (omega (arith, sum, c.if-square_sum-gt0.true))
+    (with_items c.args.ascent.now.directions c.direct.new.directions).items t.0
+    (omega (arith, t.1, c.if-square_sum-gt0.true))
 
 pub copy_orders-requires : goal.copy_orders-requires
 copy_orders-requires c =
@@ -50,23 +54,12 @@ copy_orders-requires c =
 pub returns-clause-over : goal.returns-clause-over
 returns-clause-over c =
     let p : ProblemParts = c.args.search.now.part.problem.now in
-    let is : (with_items c.args.ascent.now.directions c.direct.new.directions).items
-    ≡ next_directions p c.args.orders.now c.args.ascent.now.prices.items c.args.ascent.now.directions.items =
-    with_items_is c.args.ascent.now.directions c.direct.new.directions
-    (c.direct.auto.directions ∙ c.as_mut_slice.ensures.len)
-    ∙ (c.direct.ensures.value
-    ∙ (ap (λ (l : List ℤ). next_directions p c.args.orders.now l c.as_mut_slice.result.now) c.as_slice.ensures.value
-    ∙ ap (λ (l : List ℤ). next_directions p c.args.orders.now c.args.ascent.now.prices.items l)
-    c.as_mut_slice.ensures.value)) in
-    let sum : c.square_sum.result
-    ≡ square_sum
-    (with_items c.args.ascent.now.directions c.direct.new.directions).items = c.square_sum.ensures.value
-    ∙ ap square_sum c.as_slice-2.ensures.value in
+    let t = turned (goal.at.returns-clause-over c).After-square_sum in
     let met = c.offer_trial.ensures.offered
     ∙ ap (λ (o : List (List LineId)). after_offer p o (incumbent_of c.args.now.now.incumbent))
     (with_items_is c.args.now.now.trial c.copy_orders.new.to (c.copy_orders.auto.to ∙ c.as_mut_slice-2.ensures.len)
     ∙ c.copy_orders.ensures) in
     turn_stills (search_of c.args.search.now) c.args.orders.now (ascent_of c.args.now.now c.args.ascent.now)
     (with_items c.args.ascent.now.directions c.direct.new.directions).items
-    (incumbent_of c.offer_trial.new.now.incumbent) c.offer_trial.new.now.branches is
-    (omega (arith, sum, c.if-square_sum-gt0.false)) met c.offer_trial.ensures.branches
+    (incumbent_of c.offer_trial.new.now.incumbent) c.offer_trial.new.now.branches t.0
+    (omega (arith, t.1, c.if-square_sum-gt0.false)) met c.offer_trial.ensures.branches

@@ -1,4 +1,4 @@
-use Rattle.std.proofs.Common.{◌≡◌, ◌∙◌, sym, ap₂, subst, List, [], ◌∷◌, ◌++◌, arith}
+use Rattle.std.proofs.Common.{◌∙◌, sym, ap₂, subst, List, [], ◌∷◌, ◌++◌, arith}
 use Rattle.map_base.specs.declared.ids.NodeId.{NodeId}
 use Rattle.line_chains.specs.declared.chain.Chain.{Chain}
 use Rattle.octi_grid.specs.declared.dir.Dir.TheVariants as dir

@@ -1,11 +1,10 @@
-use Rattle.std.proofs.Common.{◌≡◌, ◌∙◌, ◌∷◌, ◌++◌, [], sym, ap, ap₂, subst, length, filter, map, List, arith}
+use Rattle.std.proofs.Common.{◌≡◌, ◌∙◌, ◌∷◌, ◌++◌, [], sym, ap, ap₂, subst, filter, map, List, arith}
 use Rattle.std.specs.Prelude.{All}
 use Rattle.std.specs.List.{flat_map}
 use Rattle.map_base.specs.declared.ids.NodeId.{NodeId}
 use Rattle.line_chains.specs.declared.chain.Chain.{Chain}
-use Rattle.line_chains.specs.Chains.{chains_of, end_of, is_corner, nodes_of}
+use Rattle.line_chains.specs.Chains.{end_of, is_corner, nodes_of}
 use Rattle.run_laying.specs.Searches.{attempts_alone}
-use Rattle.drawing_search.specs.declared.group.Group.{Group}
 use Rattle.drawing_search.specs.Searched.{attempts_of}
 use Rattle.kept_walks.specs.Groups.{all_nodes, IsSound}
 use Rattle.kept_walks.specs.Straightening.{moves_of, moves_over, single_runs}

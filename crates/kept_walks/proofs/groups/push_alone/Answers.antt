@@ -1,11 +1,10 @@
-use Rattle.std.proofs.Common.{◌≡◌, refl, sym, ◌∙◌, ap, subst, ◌++◌, List, append-nil}
+use Rattle.std.proofs.Common.{refl, sym, ◌∙◌, ap, subst, ◌++◌, List, append-nil}
 use Rattle.std.specs.Prelude.{All}
 use Rattle.std.proofs.lemmas.List.{at_drop_all}
 use Rattle.std.proofs.lemmas.List.Elements.{All-push}
 use Rattle.std.specs.List.{flat_map}
 use Rattle.line_chains.specs.declared.chain.Chain.{Chain}
 use Rattle.run_laying.specs.Attempts.{Attempt}
-use Rattle.drawing_search.specs.declared.group.Group.{Group}
 use Rattle.drawing_search.specs.Searched.{attempts_of}
 use Rattle.kept_walks.specs.Groups.{IsSound}
 use Rattle.kept_walks.proofs.Pushed.{all_alone, alone, push_more}
