@@ -31,8 +31,7 @@ use Rattle.kept_trees.specs.Results.{PartResult, by_live, is_dual, dual_part, du
 use Rattle.map_faults.specs.declared.fault.MakeFault.{MakeFault}
 use Rattle.map_faults.specs.declared.fault.MakeFault.TheVariants as fault
 use Rattle.graph_maps.specs.declared.solution.Solution.{Solution}
-use Rattle.graph_maps.specs.Solving.{of_search}
-use Rattle.graph_maps.specs.Solving.{SolvedPart, solved, solved_first, with_solved, with_parts, solve_from, solve_outcome, parts_in}
+use Rattle.graph_maps.specs.Solving.{of_search, SolvedPart, solved, solved_first, with_solved, with_parts, solve_from, solve_outcome, parts_in}
 use Rattle.graph_maps.specs.Certificates.{proof_part}
 use Rattle.graph_maps.specs.Making.{HasCause}
 use Rattle.graph_maps.specs.Stages.{prepended, CostClaimed, IsShown, IsSolution, IsMore, IsUnsolved, AreSolved, HaveProofTrees}
