@@ -122,10 +122,7 @@ held_before plan X p k part held e below is why before = by_fault e why
 
     by_fault : (f : MakeFault) → IsUnsolved plan p k part f → HoldsFinished {X = X} (Err f) (finished_of plan p) held
     by_fault fault.NoMemory w = tt
-    by_fault (fault.NoRoute seg) w = all (none_found k part (part_outcome plan p part) (fault.NoRoute seg) w)
-    by_fault (fault.Spent component branches) w = all
-        (none_found k part (part_outcome plan p part) (fault.Spent component branches) w)
-    by_fault (fault.Limit limit) w = all (none_found k part (part_outcome plan p part) (fault.Limit limit) w)
+    by_fault f w = all (none_found k part (part_outcome plan p part) f w)
 
 -- where all are solved, all are held
 pub held_all : (plan : SearchPlan) (p : ProblemParts) (k : ℕ) (held : List HeldPart) → length (parts_in p) ≤ k
@@ -179,10 +176,21 @@ left_is held plan outcome drawn is =
     ap (missing_branches held plan) is
     ∙ missing_sum plan held (untangled_problem drawn.problem) (parts_in (untangled_problem drawn.problem))
 
--- what a map finishes is what its untangled problem finishes
-pub finished_is : (plan : SearchPlan) (outcome : Result Drawn MakeFault) (drawn : Drawn) → outcome ≡ Ok drawn
-    → finished_in plan outcome ≡ finished_of plan (untangled_problem drawn.problem)
-finished_is plan outcome drawn is = ap (finished_in plan) is
+-- so many steps as they meet over a plan are those that are left
+pub steps_left : (held : List HeldPart) (plan q : SearchPlan) (outcome : Result Drawn MakeFault) (drawn : Drawn)
+    (before after : ℕ) → outcome ≡ Ok drawn → q ≡ plan
+    → after ≤ before + sum_by (branches_to_meet held q (untangled_problem drawn.problem))
+    (parts_in (untangled_problem drawn.problem)) → after ≤ before + missing_branches held plan outcome
+steps_left held plan q outcome drawn before after is same few =
+    let p : ProblemParts = untangled_problem drawn.problem in
+    let taken = subst (λ (r : SearchPlan). after ≤ before + sum_by (branches_to_meet held r p) (parts_in p)) same few in
+    omega (arith, left_is held plan outcome drawn is, taken)
+
+-- what a map finishes is what its untangled problem finishes over a plan
+pub finished_is : (plan q : SearchPlan) (outcome : Result Drawn MakeFault) (drawn : Drawn) → outcome ≡ Ok drawn
+    → q ≡ plan → finished_of q (untangled_problem drawn.problem) ≡ finished_in plan outcome
+finished_is plan q outcome drawn is same =
+    ap (λ (r : SearchPlan). finished_of r (untangled_problem drawn.problem)) same ∙ sym (ap (finished_in plan) is)
 
 -- where there is no problem, nothing is finished
 pub nothing_finished : (X : Type 0) (plan : SearchPlan) (outcome : Result Drawn MakeFault) (held : List HeldPart)
@@ -195,14 +203,10 @@ nothing_finished X plan outcome held e cause = by_fault e cause
 
     by_fault : (f : MakeFault) → HasCause outcome f → HoldsFinished {X = X} (Err f) (finished_in plan outcome) held
     by_fault fault.NoMemory h = tt
-    by_fault (fault.NoRoute seg) h = none (fault.NoRoute seg) h
-    by_fault (fault.Spent component branches) h = none (fault.Spent component branches) h
-    by_fault (fault.Limit limit) h = none (fault.Limit limit) h
+    by_fault f h = none f h
 
 -- what a refusal says of held parts, whatever was refused
 pub same_held : (X Y : Type 0) (e : MakeFault) (parts held : List HeldPart) → HoldsFinished {X = X} (Err e) parts held
     → HoldsFinished {X = Y} (Err e) parts held
 same_held X Y fault.NoMemory parts held h = tt
-same_held X Y (fault.NoRoute seg) parts held h = h
-same_held X Y (fault.Spent component branches) parts held h = h
-same_held X Y (fault.Limit limit) parts held h = h
+same_held X Y e parts held h = h

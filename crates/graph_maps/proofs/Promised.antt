@@ -1,8 +1,9 @@
 -- The check says yes to a drawing with its solved parts.
-use Rattle.std.proofs.Common.{◌≡◌, ◌∙◌, ap, sym, subst, refl, ℕ, zero, suc, ◌+◌, ◌<◌, ◌==◌, ◌&&◌, Bool, true, cond, List, [], ◌∷◌, length, map, get_or, option_map, arith, eq-eqb, Option, Some, None, Result, Ok}
+use Rattle.std.proofs.Common.{◌≡◌, ◌∙◌, ap, sym, subst, refl, ℕ, ◌+◌, ◌==◌, ◌&&◌, Bool, true, cond, List, [], ◌∷◌, length, map, get_or, option_map, arith, eq-eqb, Option, Some, None, Result, Ok}
 use Rattle.std.specs.List.{All, list_all}
 use Rattle.std.specs.List.Sorted.{IsPermutation}
 use Rattle.std.proofs.lemmas.Bool.{and_from}
+use Rattle.std.proofs.lemmas.List.{get_or_default}
 use Rattle.std.proofs.lemmas.List.Sorted.{length_permutation, All-permutation}
 use Rattle.std.proofs.lemmas.List.Elements.{All-head, All-tail}
 use Rattle.map_base.specs.declared.ids.SegId.{SegId}
@@ -40,6 +41,7 @@ use Rattle.graph_maps.proofs.DrawingLemmas.{problem_there}
 use Rattle.graph_maps.proofs.ItemLemmas.{has_at}
 use Rattle.graph_maps.proofs.PartOrders.{segs_of, segs_are, target_sum, bound_is, cost_is}
 use Rattle.graph_maps.proofs.UntangledLemmas.{untangled_fits, lifted_are, lifted_cost, bound_kept}
+use Rattle.graph_maps.proofs.Shown.{certified_shows}
 use Rattle.graph_maps.proofs.Accepting.{bound_none, targets_are, verdict_none}
 
 same_pairs : (pairs : List (LineId × ℕ)) → are_same_pairs pairs pairs ≡ true
@@ -65,12 +67,7 @@ all_pass test (a ∷ lines) all =
 
 own_lines : (lines : List LineId) → All (λ (a : LineId). has_line lines a ≡ true) lines
 own_lines lines k d below = has_at lines k (get_or lines k d) below
-    (ap (λ (a : LineId). a.0) (same_default lines k d (get_or lines k d) below))
-  where
-    same_default : (ls : List LineId) (i : ℕ) (x y : LineId) → i < length ls → get_or ls i y ≡ get_or ls i x
-    same_default [] i x y h = absurd (omega (arith, h))
-    same_default (a ∷ ls) zero x y h = refl
-    same_default (a ∷ ls) (suc i) x y h = same_default ls i x y (omega (arith, h))
+    (ap (λ (a : LineId). a.0) (get_or_default lines k (get_or lines k d) d below))
 
 is_order_of : (lines order : List LineId) → IsPermutation lines order → is_order lines order ≡ true
 is_order_of lines order moved =
@@ -155,13 +152,8 @@ module _ (plan : SearchPlan) (subject : Subject) (choices : Choices) (drawn : Dr
   }
 
   pub shows_graph : ShowsGraph subject choices plan.claim drawn.graph (map_of subject drawn parts).svg (proved_by c)
-  shows_graph = record {
-    walks = drawn.walks;
-    orders = orders;
-    shown = shows_certified.shown;
-    bounded = shows_certified.bounded;
-    claimed = shows_certified.claimed;
-  }
+  shows_graph = certified_shows subject choices plan.claim drawn.graph c (map_of subject drawn parts).svg (proved_by c)
+      shows_certified
 
   -- no item of its proof is refused
   proof_holds : (claim : Claim) → plan.claim ≡ claim → proof_item claim p c.orders c.proof ≡ None

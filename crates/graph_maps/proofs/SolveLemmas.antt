@@ -5,6 +5,7 @@ use Rattle.std.specs.List.{AllByRecursion}
 use Rattle.std.specs.Global.{Global}
 use Rattle.std.proofs.lemmas.List.{at_drop_more, at_drop_all, map-append, get_or_default, get_or-take, length-take-le, take-take}
 use Rattle.std.proofs.lemmas.List.Sums.{sum_by_more}
+use Rattle.std.proofs.lemmas.Option.{same_Some}
 use Rattle.map_base.specs.declared.ids.SegId.{SegId}
 use Rattle.map_base.specs.declared.ids.LineId.{LineId}
 use Rattle.map_base.specs.declared.limit.LimitKind.TheVariants.{Places}
@@ -128,9 +129,7 @@ unsolved_ends plan p k part before e below is why so_far = by_fault e why
 
     by_fault : (f : MakeFault) → IsUnsolved plan p k part f → HasCause (solve_outcome plan p) f
     by_fault fault.NoMemory w = tt
-    by_fault (fault.NoRoute seg) w = ends (fault.NoRoute seg) w
-    by_fault (fault.Spent component branches) w = ends (fault.Spent component branches) w
-    by_fault (fault.Limit limit) w = ends (fault.Limit limit) w
+    by_fault f w = ends f w
 
 -- all parts
 pub all_solved : (plan : SearchPlan) (p : ProblemParts) (k : ℕ) (s : Solution) → length (parts_in p) ≤ k → AreSolved plan p k s
@@ -240,9 +239,7 @@ found_more plan p part f before after found orders parts = record {
 pub not_found : (plan : SearchPlan) (p : ProblemParts) (k : ℕ) (part : List SegId) (stop : SearchFault)
     → IsFaultOf (part_outcome plan p part) stop → IsUnsolved plan p k part (of_search k stop)
 not_found plan p k part search.NoMemory h = tt
-not_found plan p k part (search.TooDeep limit) h =
-    ap (λ (o : Result PartResult SearchFault). solved_first k part o (Ok [])) h
-not_found plan p k part (search.Spent n) h =
+not_found plan p k part stop h =
     ap (λ (o : Result PartResult SearchFault). solved_first k part o (Ok [])) h
 
 -- the orders of one segment more
@@ -262,12 +259,9 @@ pub popped : (lists held rest : List (List LineId)) (i count : ℕ) (order : Lis
     → (order ≡ get_or lists (i - 1) order) × (rest ≡ take (i - 1) lists)
 popped lists held rest i count order is counted some few last left =
     let each : count ≡ i = counted ∙ ap length is ∙ length-take-le i lists few in (
-      some_same last
+      same_Some order (get_or held (count - 1) order) last
           ∙ ap (λ (n : ℕ). get_or held (n - 1) order) each
           ∙ ap (λ (ls : List (List LineId)). get_or ls (i - 1) order) is
           ∙ get_or-take i lists (i - 1) order (omega (arith, some)),
       left ∙ ap (λ (n : ℕ). take (n - 1) held) each ∙ ap (take (i - 1)) is ∙ take-take (i - 1) i lists (omega arith),
     )
-  where
-    some_same : {x y : List LineId} → Some x ≡ Some y → x ≡ y
-    some_same e = cc

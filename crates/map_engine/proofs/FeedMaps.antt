@@ -86,8 +86,7 @@ module _ (feed : Feed) (choices : Choices) (graph : GraphParts)
       graph = graph;
       of_feed = of_feed;
       kept = kept;
-      shows = certified_shows
-          (subject_of feed choices) choices claim graph svg bytes proved is;
+      shows = certified_shows (subject_of feed choices) choices claim graph is.certificate svg proved is.shows;
     }
 
     pub made_of : (claim : Claim) (made : MapBytes) → IsMadeOn (subject_of feed choices) choices claim graph made
