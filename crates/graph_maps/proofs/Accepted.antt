@@ -32,8 +32,7 @@ unless_made f None next is = is
 unless_made f (Some i) next is = refl
 
 orders_made : {A B : Type 0} (f : A → B) (claim : Claim) (c : PlainCertificate) (given : A)
-    (o : Result ProblemParts Limit)
-    → accepted_orders claim c (f given) o ≡ made_of f (accepted_orders claim c given o)
+    (o : Result ProblemParts Limit) → accepted_orders claim c (f given) o ≡ made_of f (accepted_orders claim c given o)
 orders_made f claim c given (Err limit) = refl
 orders_made {A} f claim c given (Ok p) =
     let done : Result A CheckFault = Ok given in
@@ -41,8 +40,7 @@ orders_made {A} f claim c given (Ok p) =
     unless_made f (cost_item p c.orders c.cost) (unless_refused proof done) (unless_made f proof done refl)
 
 module _ {A B : Type 0} (f : A → B) (importance : List ℕ) (choices : Choices) (claim : Claim) (graph : GraphParts) where
-  items_made : (c : PlainCertificate) (given : A)
-      → accepted_items importance choices claim graph c (f given)
+  items_made : (c : PlainCertificate) (given : A) → accepted_items importance choices claim graph c (f given)
       ≡ made_of f (accepted_items importance choices claim graph c given)
   items_made c given =
       let counts = graph_item importance graph c in
@@ -77,8 +75,7 @@ module _ {A B : Type 0} (f : A → B) (importance : List ℕ) (choices : Choices
 
 -- what is shown of a certificate is shown of its text
 pub accepted_by : (importance : List ℕ) (choices : Choices) (claim : Claim) (graph : GraphParts) (c : PlainCertificate)
-    (bytes : List ℕ)
-    (result : Result CheckedMap CheckFault) → IsTextOf c bytes
+    (bytes : List ℕ) (result : Result CheckedMap CheckFault) → IsTextOf c bytes
     → IfOk result (λ checked. ShowsAccepted importance choices claim graph c (accepted_map checked))
     → IfOk result (λ checked. IsAcceptedOn importance choices claim graph bytes (accepted_map checked))
 accepted_by importance choices claim graph c bytes

@@ -148,11 +148,10 @@ order_range lines order are moved = record {
 
 orders_range : (segs orders : List (List LineId)) → AllByRecursion AreLines segs → AreOrders segs orders → (length orders ≡ length segs) × AllByRecursion IsOrder orders
 orders_range [] [] all are = (refl, tt)
-orders_range [] (o ∷ orders) all are = absurd are
-orders_range (lines ∷ segs) [] all are = absurd are
 orders_range (lines ∷ segs) (o ∷ orders) all are =
     let rest = orders_range segs orders all.1 are.1 in
     (ap suc rest.0, (order_range lines o all.0 are.0, rest.1))
+orders_range segs orders all are = absurd are
 
 graph_lines : (importance : List ℕ) (graph : GraphParts) → IsConsistent graph → AreListed importance graph → length importance < 2 ^ 32 → (k : ℕ) (d : List LineId) → k < length graph.lines
     → AreLines (get_or graph.lines k d)
@@ -183,8 +182,11 @@ one_cost orders t h = by_test (is_met orders t)
 
 cost_small : (orders : List (List LineId)) (terms : List Term) → All IsLight terms
     → cost_of terms orders ≤ 256000 * length terms
-cost_small orders terms all = omega (arith, sum_by-le (term_cost orders) 256000 terms
-    (All-weaker IsLight (λ (t : Term). term_cost orders t ≤ 256000) (one_cost orders) terms all))
+cost_small orders terms all = omega (
+  arith,
+  sum_by-le (term_cost orders) 256000 terms
+      (All-weaker IsLight (λ (t : Term). term_cost orders t ≤ 256000) (one_cost orders) terms all),
+)
 
 -- The proof.
 
@@ -252,8 +254,7 @@ part_range plan p fits are s rising known shown tree =
 parts_range : (plan : SearchPlan) (p : ProblemParts) → IsProblem p → AreSegments p.segs → (parts : List SolvedPart)
     → AllByRecursion IsRisingPart (map segs_of parts)
     → AllByRecursion (λ (q : List SegId). All (λ (s : SegId). s.0 < length p.segs) q) (map segs_of parts)
-    → AllByRecursion (IsShown plan p) parts → HaveProofTrees parts
-    → AllByRecursion IsPartInRange (map proof_part parts)
+    → AllByRecursion (IsShown plan p) parts → HaveProofTrees parts → AllByRecursion IsPartInRange (map proof_part parts)
 parts_range plan p fits are [] rising known shown trees = tt
 parts_range plan p fits are (s ∷ parts) rising known shown trees = (
   part_range plan p fits are s rising.0 known.0 shown.0 trees.0,
@@ -278,8 +279,7 @@ module _ (plan : SearchPlan) (subject : Subject) (choices : Choices) (drawn : Dr
 
   -- what all lines of the graph are, all of the untangled problem are
   still : (Q : LineId → Type 0) → All (All Q) drawn.graph.lines → All (All Q) u.segs
-  still Q all =
-      subst (λ (q : ProblemParts). All (All Q) q.segs) (sym (last_is p whole.fits))
+  still Q all = subst (λ (q : ProblemParts). All (All Q) q.segs) (sym (last_is p whole.fits))
       (lines_kept Q p (untangling_rules p) whole.fits (rules_apply p whole.fits) (subst (All (All Q)) (sym (segs_same plan subject.importance choices drawn done whole)) all))
 
   graph_range : All (All IsLineInRange) drawn.graph.lines

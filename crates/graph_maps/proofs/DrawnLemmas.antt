@@ -127,5 +127,9 @@ drawn_below count graph =
 pub drawn_few : (count : ℕ) (graph : GraphParts) → length (drawn_lines count graph) ≤ count
 drawn_few count graph =
     let lines : List LineId = map line_numbered (range_with_len 0 count) in
-    omega (arith, length-filter (is_drawn graph) lines, count_by-le-length (is_drawn graph) lines,
-    length-map-range_with_len line_numbered 0 count)
+    omega (
+      arith,
+      length-filter (is_drawn graph) lines,
+      count_by-le-length (is_drawn graph) lines,
+      length-map-range_with_len line_numbered 0 count,
+    )

@@ -43,11 +43,9 @@ AreHeld plan held p parts = All (λ (part : List SegId). Contains held (held_as 
 -- parts that were held are held among more
 pub all_held : (plan : SearchPlan) (old new : List HeldPart) (p : ProblemParts) (parts : List (List SegId))
     → All (Contains new) old → AreHeld plan old p parts → AreHeld plan new p parts
-all_held plan old new p parts kept before =
-    All-weaker (λ (q : List SegId). Contains old (held_as plan p q))
+all_held plan old new p parts kept before = All-weaker (λ (q : List SegId). Contains old (held_as plan p q))
     (λ (q : List SegId). Contains new (held_as plan p q))
-    (λ q there. All-contains (Contains new) old (held_as plan p q) kept there)
-    parts before
+    (λ q there. All-contains (Contains new) old (held_as plan p q) kept there) parts before
 
 -- one part more is held
 pub one_held : (plan : SearchPlan) (old new : List HeldPart) (p : ProblemParts) (k : ℕ) (part : List SegId)
@@ -95,8 +93,7 @@ module _ {X : Type 0} (P : X → Type 0) (test : X → Bool) where
 finished_from : (plan : SearchPlan) (p : ProblemParts) (held : List HeldPart)
     → AllByRecursion (λ (part : List SegId). Contains held (held_as plan p part))
     (take_while (is_solvable plan p) (parts_in p)) → All (Contains held) (finished_of plan p)
-finished_from plan p held each =
-    All-map (Contains held) (held_as plan p) (take_while (is_solvable plan p) (parts_in p))
+finished_from plan p held each = All-map (Contains held) (held_as plan p) (take_while (is_solvable plan p) (parts_in p))
     (All-from_recursion (λ (part : List SegId). Contains held (held_as plan p part))
     (take_while (is_solvable plan p) (parts_in p)) each)
 
@@ -114,8 +111,7 @@ pub held_before : (plan : SearchPlan) (X : Type 0) (p : ProblemParts) (k : ℕ) 
 held_before plan X p k part held e below is why before = by_fault e why
   where
     all : is_solvable plan p part ≡ false → All (Contains held) (finished_of plan p)
-    all fails =
-        finished_from plan p held
+    all fails = finished_from plan p held
         (before_failing (λ (q : List SegId). Contains held (held_as plan p q)) (is_solvable plan p)
         (parts_in p) k part below (ap (is_solvable plan p) (sym is) ∙ fails)
         (recursion_from_All (λ (q : List SegId). Contains held (held_as plan p q)) (take k (parts_in p)) before))
@@ -127,8 +123,7 @@ held_before plan X p k part held e below is why before = by_fault e why
 -- where all are solved, all are held
 pub held_all : (plan : SearchPlan) (p : ProblemParts) (k : ℕ) (held : List HeldPart) → length (parts_in p) ≤ k
     → AreHeld plan held p (take k (parts_in p)) → All (Contains held) (finished_of plan p)
-held_all plan p k held over each =
-    finished_from plan p held
+held_all plan p k held over each = finished_from plan p held
     (before_end (λ (q : List SegId). Contains held (held_as plan p q)) (is_solvable plan p) (parts_in p)
     (recursion_from_All (λ (q : List SegId). Contains held (held_as plan p q)) (parts_in p)
     (subst (AreHeld plan held p) (take_all k (parts_in p) over) each)))
@@ -172,8 +167,7 @@ pub left_is : (held : List HeldPart) (plan : SearchPlan) (outcome : Result Drawn
     → outcome ≡ Ok drawn
     → missing_branches held plan outcome ≡ sum_by (branches_to_meet held plan (untangled_problem drawn.problem))
     (parts_in (untangled_problem drawn.problem))
-left_is held plan outcome drawn is =
-    ap (missing_branches held plan) is
+left_is held plan outcome drawn is = ap (missing_branches held plan) is
     ∙ missing_sum plan held (untangled_problem drawn.problem) (parts_in (untangled_problem drawn.problem))
 
 -- so many steps as they meet over a plan are those that are left
@@ -194,8 +188,7 @@ finished_is plan q outcome drawn is same =
 
 -- where there is no problem, nothing is finished
 pub nothing_finished : (X : Type 0) (plan : SearchPlan) (outcome : Result Drawn MakeFault) (held : List HeldPart)
-    (e : MakeFault)
-    → HasCause outcome e → HoldsFinished {X = X} (Err e) (finished_in plan outcome) held
+    (e : MakeFault) → HasCause outcome e → HoldsFinished {X = X} (Err e) (finished_in plan outcome) held
 nothing_finished X plan outcome held e cause = by_fault e cause
   where
     none : (f : MakeFault) → outcome ≡ Err f → All (Contains held) (finished_in plan outcome)

@@ -128,8 +128,7 @@ not_solved A makes choices method outcome drawn e is h = by_fault e h
   where
     refused : (f : MakeFault) → solve_outcome (plan_of choices method) (untangled_problem drawn.problem) ≡ Err f
         → if_solved makes (solved_of choices method outcome) ≡ Err f
-    refused f i =
-        ap (λ (o : Result Drawn MakeFault). if_solved makes (solved_of choices method o)) is
+    refused f i = ap (λ (o : Result Drawn MakeFault). if_solved makes (solved_of choices method o)) is
         ∙ ap (λ (o : Result (List SolvedPart) MakeFault). if_solved makes (solved_with method.moves drawn o)) i
 
     by_fault : (f : MakeFault) → HasCause (solve_outcome (plan_of choices method) (untangled_problem drawn.problem)) f

@@ -216,8 +216,7 @@ pub part_tree_range : (q : Question) → IsAsked q → (tree : PlainPartTree) �
     → IsPartTreeInRange tree
 part_tree_range q asked (by_cases tree) is h =
     tree_range q asked (none_placed q.segs) tree is.is_tree ((accepted_exactly q (none_placed q.segs) tree).1 h)
-part_tree_range q asked (by_pairs tree) is h =
-    dual_range q asked [] tree is.is_tree (((nothing_fails q tree).0 h).1)
+part_tree_range q asked (by_pairs tree) is h = dual_range q asked [] tree is.is_tree (((nothing_fails q tree).0 h).1)
 
 pub part_depth : (tree : PlainPartTree) → IsPartTree tree → depth_of_part tree ≤ most_depth
 part_depth (by_cases tree) is = is.depth

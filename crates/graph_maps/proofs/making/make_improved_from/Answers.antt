@@ -46,22 +46,19 @@ returns-in_err-best-clause-outcome g c =
     (drawn_of c.args.graph.now (c.in_ok-drawing.drawing, p)) e c.in_ok-drawing.ensures.outcome cause)
 
 pub returns-in_err-best-clause-steps : goal.returns-in_err-best-clause-steps
-returns-in_err-best-clause-steps g c =
-    steps_left c.args.kept.now (plan_of c.args.settings.now c.args.method.now) _
+returns-in_err-best-clause-steps g c = steps_left c.args.kept.now (plan_of c.args.settings.now c.args.method.now) _
     (drawn_on c.args.importance.now c.args.settings.now c.args.method.now c.args.graph.now)
     (drawn_of c.args.graph.now (c.in_ok-drawing.drawing, c.in_ok-drawing.problem)) c.args.steps.now
     c.best_orders.new.steps c.in_ok-drawing.ensures.outcome c.plan_of.ensures.plan c.best_orders.ensures.steps
 
 pub returns-in_err-moved_map-clause-steps : goal.returns-in_err-moved_map-clause-steps
-returns-in_err-moved_map-clause-steps g c =
-    steps_left c.args.kept.now (plan_of c.args.settings.now c.args.method.now) _
+returns-in_err-moved_map-clause-steps g c = steps_left c.args.kept.now (plan_of c.args.settings.now c.args.method.now) _
     (drawn_on c.args.importance.now c.args.settings.now c.args.method.now c.args.graph.now)
     (drawn_of c.args.graph.now (c.in_ok-drawing.drawing, c.in_ok-drawing.problem)) c.args.steps.now
     c.best_orders.new.steps c.in_ok-drawing.ensures.outcome c.plan_of.ensures.plan c.best_orders.ensures.steps
 
 pub returns-clause-steps : goal.returns-clause-steps
-returns-clause-steps g c =
-    steps_left c.args.kept.now (plan_of c.args.settings.now c.args.method.now) _
+returns-clause-steps g c = steps_left c.args.kept.now (plan_of c.args.settings.now c.args.method.now) _
     (drawn_on c.args.importance.now c.args.settings.now c.args.method.now c.args.graph.now)
     (drawn_of c.args.graph.now (c.in_ok-drawing.drawing, c.in_ok-drawing.problem)) c.args.steps.now
     c.best_orders.new.steps c.in_ok-drawing.ensures.outcome c.plan_of.ensures.plan c.best_orders.ensures.steps
@@ -90,8 +87,7 @@ returns-in_err-best-clause-finished g c =
     rw (same.1, same.2) (same_held BestOrders ImprovedMap e parts held of_graph)
 
 pub returns-clause-finished : goal.returns-clause-finished
-returns-clause-finished g c =
-    subst (λ (parts : List HeldPart). All (Contains c.best_orders.new.kept) parts)
+returns-clause-finished g c = subst (λ (parts : List HeldPart). All (Contains c.best_orders.new.kept) parts)
     (finished_is (plan_of c.args.settings.now c.args.method.now) _
     (drawn_on c.args.importance.now c.args.settings.now c.args.method.now c.args.graph.now)
     (drawn_of c.args.graph.now (c.in_ok-drawing.drawing, c.in_ok-drawing.problem)) c.in_ok-drawing.ensures.outcome

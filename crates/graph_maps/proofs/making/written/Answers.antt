@@ -16,14 +16,12 @@ weighty_lines-requires c =
 pub overflow_cast-certificate : goal.overflow_cast-certificate
 overflow_cast-certificate c =
     let lines : c.in_ok-lines.lines.items ≡ drawn_lines c.line_total.result c.args.graph.now = c.in_ok-lines.ensures in
-    let below : c.len.result < 2 ^ 32 =
-    omega (
+    let below : c.len.result < 2 ^ 32 = omega (
       arith,
       c.len.ensures,
       c.in_ok-lines.lines.ok.0,
       ap length lines,
-      drawn_few c.line_total.result
-          c.args.graph.now,
+      drawn_few c.line_total.result c.args.graph.now,
       c.line_total.ensures,
       c.requires.few,
     ) in
