@@ -69,15 +69,14 @@ module _ (feed : Feed) (choices : Choices) (graph : GraphParts)
     abbrev pub certified_of : (claim : Claim) (svg bytes : List ℕ) (proved : Proved)
         → IsCertifiedOn (subject_of feed choices) choices claim graph svg bytes proved
         → IsCertified feed choices claim svg bytes proved
-    certified_of claim svg bytes proved is =
-        record {
-          certificate = is.certificate;
-          written = is.written;
-          graph = graph;
-          of_feed = of_feed;
-          kept = kept;
-          shows = is.shows;
-        }
+    certified_of claim svg bytes proved is = record {
+      certificate = is.certificate;
+      written = is.written;
+      graph = graph;
+      of_feed = of_feed;
+      kept = kept;
+      shows = is.shows;
+    }
 
     pub shown_of : (claim : Claim) (svg bytes : List ℕ) (proved : Proved)
         → IsCertifiedOn (subject_of feed choices) choices claim graph svg bytes proved
