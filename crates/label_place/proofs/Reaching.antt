@@ -50,19 +50,15 @@ on_way_across dir.NE from t h = goes_up from _ _ t h (omega (arith, ints)) (omeg
 on_way_across dir.E from t h = goes_up from _ _ t h (omega (arith, ints)) (omega (arith, ints))
 on_way_across dir.SE from t h = goes_up from _ _ t h (omega (arith, ints)) (omega (arith, ints))
 on_way_across dir.S from t h = goes_nowhere from _ _ (omega (arith, ints))
-on_way_across dir.SW from t h = goes_down from _ _ t h (omega (arith, ints)) (omega (arith, ints))
-on_way_across dir.W from t h = goes_down from _ _ t h (omega (arith, ints)) (omega (arith, ints))
-on_way_across dir.NW from t h = goes_down from _ _ t h (omega (arith, ints)) (omega (arith, ints))
+on_way_across d from t h = goes_down from _ _ t h (omega (arith, ints)) (omega (arith, ints))
 
 on_way_down : (d : Dir) (from : ℤ) (t : ℕ) → t ≤ 100 → IsBetween from (from -ℤ (pos t *ℤ north_of d)) (from -ℤ (pos 100 *ℤ north_of d))
-on_way_down dir.N from t h = goes_down from _ _ t h (omega (arith, ints)) (omega (arith, ints))
-on_way_down dir.NE from t h = goes_down from _ _ t h (omega (arith, ints)) (omega (arith, ints))
 on_way_down dir.E from t h = goes_nowhere from _ _ (omega (arith, ints))
 on_way_down dir.SE from t h = goes_up from _ _ t h (omega (arith, ints)) (omega (arith, ints))
 on_way_down dir.S from t h = goes_up from _ _ t h (omega (arith, ints)) (omega (arith, ints))
 on_way_down dir.SW from t h = goes_up from _ _ t h (omega (arith, ints)) (omega (arith, ints))
 on_way_down dir.W from t h = goes_nowhere from _ _ (omega (arith, ints))
-on_way_down dir.NW from t h = goes_down from _ _ t h (omega (arith, ints)) (omega (arith, ints))
+on_way_down d from t h = goes_down from _ _ t h (omega (arith, ints)) (omega (arith, ints))
 
 -- a range, and one that is wider by a margin and has a number of it
 overlap : (l r a b z : ℤ) (m : ℕ) → l ≤ℤ r → (l -ℤ pos m) ≤ℤ z → z ≤ℤ (r +ℤ pos m) → a ≤ℤ z → z ≤ℤ b → int_max l (a -ℤ pos m) ≤ℤ int_min r (b +ℤ pos m)

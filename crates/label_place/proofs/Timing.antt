@@ -56,19 +56,15 @@ across dir.NE from low high t h = rises from low high _ t (omega (arith, ints))
 across dir.E from low high t h = rises from low high _ t (omega (arith, ints))
 across dir.SE from low high t h = rises from low high _ t (omega (arith, ints))
 across dir.S from low high t h = stays from low high _ t h (omega (arith, ints))
-across dir.SW from low high t h = falls from low high _ t (omega (arith, ints))
-across dir.W from low high t h = falls from low high _ t (omega (arith, ints))
-across dir.NW from low high t h = falls from low high _ t (omega (arith, ints))
+across d from low high t h = falls from low high _ t (omega (arith, ints))
 
 down : (d : Dir) (from low high : ℤ) (t : ℕ) → t ≤ 100 → between low (from -ℤ (pos t *ℤ north_of d)) high ≡ at_time (times from (south_of d) low high) t
-down dir.N from low high t h = falls from low high _ t (omega (arith, ints))
-down dir.NE from low high t h = falls from low high _ t (omega (arith, ints))
 down dir.E from low high t h = stays from low high _ t h (omega (arith, ints))
 down dir.SE from low high t h = rises from low high _ t (omega (arith, ints))
 down dir.S from low high t h = rises from low high _ t (omega (arith, ints))
 down dir.SW from low high t h = rises from low high _ t (omega (arith, ints))
 down dir.W from low high t h = stays from low high _ t h (omega (arith, ints))
-down dir.NW from low high t h = falls from low high _ t (omega (arith, ints))
+down d from low high t h = falls from low high _ t (omega (arith, ints))
 
 -- a point lies in a box at the times at which both coordinates do
 held_when : (b : Bounds) (start : Corner) (d : Dir) (t : ℕ) → t ≤ 100
