@@ -118,11 +118,17 @@ numbered_below most start zero h = tt
 numbered_below most start (suc n) h = (omega (arith, h), numbered_below most (start + 1) n (omega (arith, h)))
 
 -- the lines on segments are below their count, and no more
-pub drawn_below : (count : ℕ) (graph : GraphParts) → All (λ (a : LineId). a.0 < count) (drawn_lines count graph)
+drawn_below : (count : ℕ) (graph : GraphParts) → All (λ (a : LineId). a.0 < count) (drawn_lines count graph)
 drawn_below count graph =
     let lines : List LineId = map line_numbered (range_with_len 0 count) in
     All-filter (is_drawn graph) (λ (a : LineId). a.0 < count) lines
     (All-from_recursion (λ (a : LineId). a.0 < count) lines (numbered_below count 0 count (omega arith)))
+
+pub drawn_within : (graph : GraphParts) (count n : ℕ) (lines : List LineId) → lines ≡ drawn_lines count graph → count ≡ n
+    → All (λ (a : LineId). a.0 < n) lines
+drawn_within graph count n lines are each =
+    subst (λ (m : ℕ). All (λ (a : LineId). a.0 < m) lines) each
+    (subst (All (λ (a : LineId). a.0 < count)) (sym are) (drawn_below count graph))
 
 pub drawn_few : (count : ℕ) (graph : GraphParts) → length (drawn_lines count graph) ≤ count
 drawn_few count graph =
