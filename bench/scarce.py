@@ -8,8 +8,12 @@ Over three small feeds and Vienna's underground, and for each command:
 - short files: with each greatest length of a file (`ulimit -f`, in bytes) up to that of its longest output, or N of them
   (300), standard output into a file among them. A run never ends by a signal (SIGXFSZ); it ends with status 8 and the
   outputs as they were, or with its ordinary status and bytes.
-- a short stack: 64 KB, with the ordinary status and bytes. Over a feed of its own, with 1 MB, `check` and `labels` of a
-  certificate whose tree has as many levels as one may have; and with one level more, which is no certificate.
+- a short stack: 64 KB, with the ordinary status and bytes.
+- mistakes: the same stack, over inputs with one mistake each (`mistakes.py`), each by a few commands: bad rows of each table,
+  settings, edits, graph files and certificates that are refused, words of which no map comes. Status, outputs, standard
+  output and standard error are those of a run with the ordinary stack.
+- deep proofs: over a feed of its own, with a stack of 1 MB, `check` and `labels` of a certificate whose tree has as many
+  levels as one may have; and with one level more, which is no certificate.
 - a full disk: a file system of 16 KB (a `tmpfs`, which only root can make) with a small pair of map and certificate on it,
   to which `map` writes Vienna's: status 8, and both old files whole.
 
@@ -21,6 +25,7 @@ import resource
 import subprocess
 import sys
 
+from mistakes import bytes_of, mistakes
 from trials import COMMANDS, FEEDS, OLD, SECONDS, TOP, Judge, Program, write_feed
 
 MOST_LEVELS = 2048
@@ -30,9 +35,10 @@ STACK, DEEP_STACK = 64 << 10, 1 << 20
 
 
 class Limited(Program):
-    """The same program under limits of the system, with no library preloaded."""
+    """The same program under limits of the system, with no library preloaded. What the last run said on standard error is
+    `told`."""
 
-    limits = ()
+    limits, told = (), b""
 
     def run(self, words, refuse=None, log=False):
         def limit():
@@ -40,15 +46,16 @@ class Limited(Program):
             for kind, number in self.limits:
                 resource.setrlimit(kind, (number, resource.getrlimit(kind)[1]))
 
-        with open(self.said_file, "wb") as said:
+        told_file = os.path.join(self.top, "told")
+        with open(self.said_file, "wb") as said, open(told_file, "wb") as told:
             try:
                 done = subprocess.run([self.program] + words.split(" "), env={}, stdin=subprocess.DEVNULL, stdout=said,
-                                      stderr=subprocess.DEVNULL, preexec_fn=limit, timeout=SECONDS)
+                                      stderr=told, preexec_fn=limit, timeout=SECONDS)
                 status = done.returncode
             except subprocess.TimeoutExpired:
                 status = None
-        with open(self.said_file, "rb") as said:
-            return status, said.read()
+        self.told = bytes_of(told_file)
+        return status, bytes_of(self.said_file)
 
 
 def spread(rooms, most):
@@ -87,6 +94,42 @@ def short_stack(program, command):
     program.limits = []
     fault = judge.fault(status, said, True, (judge.status,))
     return 1, [f"a stack of {STACK >> 10} KB: {fault}"] if fault else []
+
+
+def changed_run(program, words, changes, limits):
+    """What comes of a run over changed files: status, standard output, standard error and outputs."""
+    names = [word for word in words.split(" ") if word.startswith("out")]
+    program.set_outputs(names, True)
+    kept = {path: bytes_of(path) if os.path.exists(path) else None for path in changes}
+    write_files(changes)
+    program.limits = limits
+    status, said = program.run(words)
+    program.limits = []
+    write_files(kept)
+    return status, said, program.told, program.outputs(names)
+
+
+def write_files(texts):
+    for path, text in texts.items():
+        if text is None:
+            os.remove(path)
+        else:
+            with open(path, "wb") as out:
+                out.write(text)
+
+
+def short_stack_of_mistakes(program):
+    """(runs, faults) of commands over inputs with a mistake."""
+    faults, runs = [], 0
+    for name, words, statuses, changes in mistakes():
+        wide = changed_run(program, words, changes, [])
+        narrow = changed_run(program, words, changes, [(resource.RLIMIT_STACK, STACK)])
+        runs += 1
+        if wide[0] not in statuses:
+            faults.append(f"{words}: {name}: status {wide[0]}")
+        elif narrow != wide:
+            faults.append(f"{words}: {name}: a stack of {STACK >> 10} KB: {narrow} in place of {wide}")
+    return runs, faults
 
 
 def deep_certificate(program, levels):
@@ -165,6 +208,8 @@ def main():
             for command in COMMANDS:
                 if given.command in command and not (command in ("trial", "help") and feed != "one line"):
                     wrong += sum(tell(f"{name}: {feed}: {command}", trial(command)) for name, trial in trials.items() if given.only in name)
+            if given.only in "mistakes" and not given.command:
+                wrong += tell(f"mistakes: {feed}", short_stack_of_mistakes(program))
     wrong += sum(tell(name, trial(program)) for name, trial in alone.items() if given.only in name)
     program.end()
     sys.exit(1 if wrong else 0)

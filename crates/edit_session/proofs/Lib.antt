@@ -1,3 +1,6 @@
 mod SessionLemmas
-pub mod ScriptLemmas
+mod ScriptLemmas
 mod LawLemmas
+mod EditLemmas
+mod LineLemmas
+mod PlayLemmas

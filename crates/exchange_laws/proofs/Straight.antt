@@ -21,7 +21,7 @@ use Rattle.run_laying.specs.Pieces.{even_steps, pieces_of}
 use Rattle.run_laying.specs.Laying.{all_laid, board_under, if_laid, laid, laid_along, run_walk, with_piece, with_pieces, Sketch}
 use Rattle.run_laying.specs.Attempts.{attempted, attempted_on, bounds_past, if_lighter, improving, may_move, point_in_attempt, walk_beside, walks_in, is_inner, without_runs, Attempt}
 use Rattle.run_laying.specs.Searches.{after_passes, attempts_alone, searched, Found}
-use Rattle.line_straightening.specs.Straightening.{moves_over, single_runs, straight_attempts, straight_scale, straightened}
+use Rattle.kept_walks.specs.Straightening.{moves_over, single_runs, straight_attempts, straight_scale, straightened}
 use Rattle.kept_walks.specs.Drawings.{drawing_outcome, straightened_routes, straightened_walks}
 use Rattle.exchange_laws.proofs.Moves.{same_routes, with_kinds}
 

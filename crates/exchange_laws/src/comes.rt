@@ -11,7 +11,7 @@ ghost use Rattle.command_inputs.specs.declared.loaded.Loaded.{Loaded};
 ghost use Rattle.command_inputs.specs.Loading.{load_work, settings_by};
 ghost use Rattle.map_commands.specs.MapWorks.{make_work};
 ghost use Rattle.export_command.specs.ExportWorks.{export_work, file_outputs};
-ghost use Rattle.import_command.specs.ImportWorks.{import_work};
+ghost use Rattle.map_commands.specs.ImportWorks.{import_work};
 ghost use Rattle.exchange_laws.specs.Exchanged.{AreAlike, IsExported};
 ghost use Rattle.exchange_laws.specs.Works.{no_page, unless_long};
 

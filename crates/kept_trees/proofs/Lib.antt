@@ -1,3 +1,10 @@
+mod Composing
+mod Walking
+mod Counting
+mod Beginning
+mod Listing
+mod Forking
+mod RootNodes
 mod RenumberedTrees
 mod OwnPlaces
 mod OwnProblems

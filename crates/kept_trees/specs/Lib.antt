@@ -1,3 +1,5 @@
+pub mod Finding
+pub mod Searching
 pub mod Renumbered
 pub mod Results
 pub mod Keeping

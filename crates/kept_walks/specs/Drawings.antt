@@ -8,7 +8,7 @@ use Rattle.grid_board.specs.Points.{are_near}
 use Rattle.node_homes.specs.Cells.{cell_side}
 use Rattle.segment_router.specs.declared.fault.RouteFault.{RouteFault}
 use Rattle.segment_router.specs.Routing.{route_outcome}
-use Rattle.line_straightening.specs.Straightening.{straightened}
+use Rattle.kept_walks.specs.Straightening.{straightened}
 
 -- the walks of a line graph after at most so many improving attempts to straighten them, on the cells that are asked for
 abbrev pub straightened_walks : GraphParts → ℕ → ℕ → List PlainWalk → List PlainWalk

@@ -10,8 +10,8 @@ ghost use Rattle.kept_walks.specs.Drawings.{drawing_outcome, straightened_walks,
 
 use crate::copies::{copy_of_drawing, copy_of_graph};
 use crate::same_graphs::are_same_graphs;
+use crate::straightening::straighten;
 use graph_core::LineGraph;
-use line_straightening::straighten;
 use map_base::NoMemory;
 use map_method::Spread;
 use node_homes::side_over;

@@ -1,13 +1,23 @@
 //! The drawing of a line graph, routed and straightened, and the one that was made last.
 //!
-//! That is taken again where nothing changed on which it depends: the line graph, the cells, how nodes are spread, the
-//! finest grid and how many attempts may straighten it. What is taken again is what would be drawn anew, so nothing that is
-//! kept shows in an answer.
+//! Straightening lets lines run straight through their stations. Stations between two junctions are beads on a line:
+//! whole chains of segments are laid anew, corners of the network move with the chains that end at them, and nodes with
+//! their segments, as long as that makes the drawing lighter. What is made is legal, and weighs no more than what was
+//! there before.
+//!
+//! The drawing that was made last is taken again where nothing changed on which it depends: the line graph, the cells,
+//! how nodes are spread, the finest grid and how many attempts may straighten it. What is taken again is what would be
+//! drawn anew, so nothing that is kept shows in an answer.
 #![tactic(auto)]
 
 mod copies;
 mod drawn;
+mod groups;
+mod runs;
 mod same_graphs;
+mod straightening;
 
 pub use copies::copy_of_graph;
+pub use drawing_search::Searched;
 pub use drawn::KeptWalks;
+pub use straightening::straighten;

@@ -28,10 +28,7 @@ use Rattle.run_status.specs.Refusals.{of_check}
 use Rattle.command_inputs.specs.Loading.{load_work}
 use Rattle.run_status.specs.Following.{Follows, Gives}
 use Rattle.map_commands.specs.Promises.{AreOfYes, IsAccepted}
-use Rattle.run_status.proofs.FollowLemmas.{IsRefusedAs, follows_refused, follows_then, gives_follows, refused_as}
-
-abbrev pub Told : Type 0
-Told = Option (List (List ℕ × List ℕ))
+use Rattle.run_status.proofs.FollowLemmas.{IsRefusedAs, Told, follows_refused, follows_then, gives_follows, refused_as}
 
 abbrev same_graph : GraphParts → GraphParts
 same_graph graph = graph

@@ -1,2 +1,4 @@
 pub mod MakeLemmas
 pub mod CheckLemmas
+mod ImproveLemmas
+mod ImportLemmas

@@ -1,5 +1,5 @@
 -- What `make` promises, and how many steps it takes.
-use Rattle.std.proofs.Common.{◌≡◌, ◌≢◌, ◌≤◌, ◌+◌, ◌++◌, ◌∙◌, ap, refl, ℕ, inr, List, [], Option, Some, Result, Ok, Err, IfOk, sym}
+use Rattle.std.proofs.Common.{◌≡◌, ◌≢◌, ◌≤◌, ◌+◌, ◌++◌, ◌∙◌, ap, refl, ℕ, inr, List, [], Some, Result, Ok, Err, IfOk, sym}
 use Rattle.map_base.specs.declared.limit.Limit.{Limit}
 use Rattle.map_base.specs.declared.limit_fault.LimitFault.{LimitFault}
 use Rattle.map_base.specs.declared.limit_fault.LimitFault.TheVariants as limit
@@ -27,9 +27,7 @@ use Rattle.map_commands.specs.MapWorks.{made_at, map_outputs, new_outputs, page_
 use Rattle.command_inputs.specs.Loading.{load_work}
 use Rattle.run_status.specs.Following.{Follows, Gives}
 use Rattle.map_commands.specs.Promises.{AreOfMap, SearchesParts}
-
-abbrev Told : Type 0
-Told = Option (List (List ℕ × List ℕ))
+use Rattle.run_status.proofs.FollowLemmas.{Told}
 
 -- a map that was made of what was loaded
 pub are_of_map : (told : Told) (inputs : InputPaths) (rose : Type 0) (paths : NewPaths) (loaded : Loaded) (result : Result (List Output) Refusal)

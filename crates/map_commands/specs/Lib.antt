@@ -1,2 +1,4 @@
 pub mod MapWorks
+pub mod ImproveWorks
+pub mod ImportWorks
 pub mod Promises

@@ -1,4 +1,4 @@
-//! The outputs of `make`.
+//! The outputs of `make`, and those of any map.
 
 ghost use Rattle.std.specs.Prelude.{◌≡◌, ◌≢◌, ◌++◌, IfOk, Ok, Some, None, option_map};
 ghost use Rattle.std.specs.Option.{option_to_list};

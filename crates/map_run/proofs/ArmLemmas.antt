@@ -22,16 +22,16 @@ use Rattle.command_inputs.specs.Inputs.{InputPaths, input_at}
 use Rattle.table_commands.specs.TableWorks.{graph_work, stations_work}
 use Rattle.map_commands.specs.MapWorks.{check_work, make_work}
 use Rattle.export_command.specs.ExportWorks.{export_work}
-use Rattle.import_command.specs.ImportWorks.{import_work, AreOfImported, SearchesImported}
+use Rattle.map_commands.specs.ImportWorks.{import_work, AreOfImported, SearchesImported}
 use Rattle.page_command.specs.PageWorks.{page_work}
 use Rattle.map_commands.specs.Promises.{AreOfMap, AreOfYes, SearchesParts}
-use Rattle.improve_command.specs.ImproveWorks.{improve_work, AreOfImproved}
+use Rattle.map_commands.specs.ImproveWorks.{improve_work, AreOfImproved}
 use Rattle.picture_command.specs.PictureWorks.{picture_work, AreOfPicture}
-use Rattle.session_command.specs.declared.stop.ScriptStop.{ScriptStop}
-use Rattle.session_command.specs.declared.stop.ScriptStop.TheVariants as script_stop
-use Rattle.session_command.specs.Playing.{IsPlayed, Plays}
-use Rattle.session_command.specs.SessionWorks.{Played, session_work}
-use Rattle.session_command.specs.Promises.{AreOfSession, TakesSessionSteps}
+use Rattle.edit_session.specs.declared.stop.ScriptStop.{ScriptStop}
+use Rattle.edit_session.specs.declared.stop.ScriptStop.TheVariants as script_stop
+use Rattle.edit_session.specs.Playing.{IsPlayed, Plays}
+use Rattle.edit_session.specs.SessionWorks.{Played, session_work}
+use Rattle.edit_session.specs.Promises.{AreOfSession, TakesSessionSteps}
 use Rattle.trial_command.specs.Trials.{TakesTrialSteps, trial_outcome, trial_work}
 use Rattle.map_run.specs.Answers.{Finished, done, status_at, stopped, whole, whole_by}
 use Rattle.map_run.specs.Commands.{is_script, to_a_stop, to_the_end, work}

@@ -23,7 +23,7 @@ use Rattle.command_words.proofs.Apart.{AreApart, AreNewApart, asked_apart}
 use Rattle.asked_inputs.specs.Inputs.{input_path}
 use Rattle.map_page.specs.Pages.{page_bytes}
 use Rattle.map_commands.specs.MapWorks.{map_outputs, page_output}
-use Rattle.session_command.specs.SessionWorks.{Played, session_text}
+use Rattle.edit_session.specs.SessionWorks.{Played, session_text}
 use Rattle.map_run.specs.Answers.{Finished, answer_by, status_at}
 use Rattle.run_status.specs.Statuses.{status_of}
 use Rattle.map_run.specs.Promises.{Keeps, Promised}

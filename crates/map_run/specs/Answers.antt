@@ -6,7 +6,7 @@ use Rattle.run_status.specs.declared.refusal.Refusal.{Refusal}
 use Rattle.run_status.specs.declared.status.Status.{Status}
 use Rattle.run_status.specs.declared.status.Status.TheVariants as status
 use Rattle.run_status.specs.Statuses.{status_of}
-use Rattle.session_command.specs.SessionWorks.{Played}
+use Rattle.edit_session.specs.SessionWorks.{Played}
 use Rattle.map_run.specs.declared.answer.Answer.{Answer}
 
 -- what a command comes to at its end: its outputs in the order in which their targets are begun, and the number of the bad line

@@ -7,12 +7,12 @@ use Rattle.run_status.specs.declared.input.Input.{Input}
 use Rattle.run_status.specs.declared.refusal.Refusal.{Refusal}
 use Rattle.table_commands.specs.TableWorks.{graph_work, stations_work}
 use Rattle.map_commands.specs.MapWorks.{check_work, make_work}
-use Rattle.improve_command.specs.ImproveWorks.{improve_work}
+use Rattle.map_commands.specs.ImproveWorks.{improve_work}
 use Rattle.picture_command.specs.PictureWorks.{picture_work}
-use Rattle.session_command.specs.SessionWorks.{Played, session_work}
+use Rattle.edit_session.specs.SessionWorks.{Played, session_work}
 use Rattle.trial_command.specs.Trials.{trial_work}
 use Rattle.export_command.specs.ExportWorks.{export_work}
-use Rattle.import_command.specs.ImportWorks.{import_work}
+use Rattle.map_commands.specs.ImportWorks.{import_work}
 use Rattle.page_command.specs.PageWorks.{page_work}
 use Rattle.map_run.specs.Answers.{Finished, stopped, whole}
 

@@ -18,8 +18,8 @@ use Rattle.run_status.specs.declared.status.Status.TheVariants as status
 use Rattle.run_status.specs.Lines.{status_line}
 use Rattle.command_words.specs.Asked.{Asked}
 use Rattle.asked_inputs.specs.Inputs.{input_path}
-use Rattle.session_command.specs.declared.stop.ScriptStop.{ScriptStop}
-use Rattle.session_command.specs.declared.stop.ScriptStop.TheVariants as script_stop
+use Rattle.edit_session.specs.declared.stop.ScriptStop.{ScriptStop}
+use Rattle.edit_session.specs.declared.stop.ScriptStop.TheVariants as script_stop
 use Rattle.map_run.specs.Answers.{Finished, alone, answer_by, status_at}
 use Rattle.map_run.specs.Commands.{is_script, work}
 use Rattle.run_status.specs.Following.{ComesTo}

@@ -19,15 +19,15 @@ use Rattle.map_engine.specs.Improving.{improve_outcome, IsImprovedMap}
 use Rattle.command_paths.specs.declared.picture.Picture.{Picture}
 use Rattle.picture_command.specs.PictureWorks.{IsPicture}
 use Rattle.edit_session.specs.Scripts.{followed_in}
-use Rattle.session_command.specs.SessionWorks.{session_text}
-use Rattle.session_command.specs.Promises.{KeepDraws}
+use Rattle.edit_session.specs.SessionWorks.{session_text}
+use Rattle.edit_session.specs.Promises.{KeepDraws}
 use Rattle.command_inputs.specs.declared.loaded.Loaded.{Loaded}
 use Rattle.command_words.specs.Asked.{Asked, stations, graph, make, improve, check, depict, session, trial, page, export, imported}
 use Rattle.command_paths.specs.Paths.{Chosen, MapPaths, NewPaths}
 use Rattle.map_page.specs.Pages.{page_bytes}
 use Rattle.map_commands.specs.MapWorks.{proved_line, poster_due}
 use Rattle.graph_maps.specs.declared.checked.Proved.{Proved}
-use Rattle.improve_command.specs.ImproveWorks.{improved_line}
+use Rattle.map_commands.specs.ImproveWorks.{improved_line}
 use Rattle.command_inputs.specs.Loading.{Loads}
 use Rattle.map_method.specs.declared.map_settings.MapSettings.{MapSettings}
 use Rattle.graph_json.specs.declared.imported.Imported.{Imported}
@@ -35,7 +35,7 @@ use Rattle.graph_maps.specs.Promises.{IsMadeOn}
 use Rattle.graph_maps.specs.Subjects.{told_by}
 use Rattle.command_run.specs.Told.{IsRun}
 use Rattle.run_status.specs.declared.refusal.Refusal.TheVariants as refused
-use Rattle.import_command.specs.ImportWorks.{read_work}
+use Rattle.map_commands.specs.ImportWorks.{read_work}
 use Rattle.asked_inputs.specs.Inputs.{inputs_of, input_path}
 use Rattle.map_commands.specs.Promises.{IsAccepted}
 

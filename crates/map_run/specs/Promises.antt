@@ -3,11 +3,11 @@ use Rattle.std.specs.Prelude.{◌≡◌, ℕ, List, Option, None, Some, Result, 
 use Rattle.command_words.specs.Asked.{Asked, stations, graph, export, imported, make, improve, check, depict, session, trial, page}
 use Rattle.run_status.specs.declared.refusal.Refusal.{Refusal}
 use Rattle.map_commands.specs.Promises.{AreOfMap, AreOfYes, SearchesParts}
-use Rattle.improve_command.specs.ImproveWorks.{AreOfImproved}
-use Rattle.import_command.specs.ImportWorks.{AreOfImported, SearchesImported}
+use Rattle.map_commands.specs.ImproveWorks.{AreOfImproved}
+use Rattle.map_commands.specs.ImportWorks.{AreOfImported, SearchesImported}
 use Rattle.picture_command.specs.PictureWorks.{AreOfPicture}
-use Rattle.session_command.specs.SessionWorks.{Played}
-use Rattle.session_command.specs.Promises.{AreOfSession, TakesSessionSteps}
+use Rattle.edit_session.specs.SessionWorks.{Played}
+use Rattle.edit_session.specs.Promises.{AreOfSession, TakesSessionSteps}
 use Rattle.trial_command.specs.Trials.{TakesTrialSteps}
 use Rattle.map_run.specs.Answers.{Finished}
 use Rattle.asked_inputs.specs.Inputs.{inputs_of}

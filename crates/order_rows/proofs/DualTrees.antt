@@ -4,8 +4,8 @@ use Rattle.order_values.specs.DualTrees.{PlainDual, fork, stop, plain_dual}
 use Rattle.order_model.specs.declared.problem.ProblemParts.{ProblemParts}
 use Rattle.order_proof.specs.Trees.{IsDualTree, IsProofDual}
 use Rattle.dual_ascent.specs.Shown.{IsListed, IsShown}
-use Rattle.dual_search.specs.declared.found.DualFound.{DualFound}
-use Rattle.dual_search.specs.Finding.{result_found}
+use Rattle.kept_trees.specs.declared.dual_found.DualFound.{DualFound}
+use Rattle.kept_trees.specs.Finding.{result_found}
 
 is_dual : (t : PlainDual) → IsListed t → IsDualTree t
 is_dual (fork seg a b first second) h = (is_dual first h.0, is_dual second h.1)

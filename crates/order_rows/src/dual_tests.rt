@@ -9,7 +9,7 @@ use crate::answers::found_text;
 use crate::known;
 use crate::known::Small;
 use crate::problems::problem_of;
-use dual_search::{DualFound, is_in_reach, search};
+use kept_trees::{DualFound, is_in_reach, search};
 use map_base::{NoMemory, SegId, Steps};
 use order_model::Problem;
 use order_proof::PartTree;

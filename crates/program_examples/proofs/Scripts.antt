@@ -11,8 +11,8 @@ use Rattle.map_method.specs.Defaults.{method_of}
 use Rattle.map_faults.specs.declared.fault.MakeFault.TheVariants as fault
 use Rattle.run_status.specs.declared.refusal.Refusal.TheVariants as refused
 use Rattle.command_inputs.specs.declared.loaded.Loaded.{Loaded}
-use Rattle.session_command.specs.DrawTexts.{draw_text, draws_text}
-use Rattle.session_command.specs.SessionWorks.{draw_outputs, played_by, script_in}
+use Rattle.edit_session.specs.DrawTexts.{draw_text, draws_text}
+use Rattle.edit_session.specs.SessionWorks.{draw_outputs, played_by, script_in}
 
 a_map : draw_text 11 (Ok (record { svg = codes "<svg/>\n"; certificate = codes "ab" })) ≡ codes "draw 11 7 2\n<svg/>\nab"
 unfolding digits

@@ -1,11 +1,11 @@
 //! A line of a file of edits, or of a script, that is refused.
 
 use crate::files::missing;
-use crate::lookup::bytes_at;
-use crate::table_ids::{ids_at, question};
+use crate::near_word::question;
 use command_inputs::Inputs;
+use file_lookup::{bytes_at, edits_path, ids_at, line_at};
 use map_base::{NoMemory, Text};
-use map_edits::{Edit, next_line};
+use map_edits::Edit;
 use message_texts::{EDIT_WORDS, EditWord, Trouble, list_of, quoted, trouble_of};
 use std::alloc::Global;
 use std::rt::Files;
@@ -34,27 +34,6 @@ pub(crate) fn bad_edit<R: Files + AllocGlobal>(
     let shown = quoted(alloc, path.as_bytes())?;
     let text = quoted(alloc, text)?;
     Ok(format!(in alloc; "octimap: {shown}, line {line}: {text}: {wrong}\n")?)
-}
-
-/// Where the edits stand: in a script, or in a file of edits.
-fn edits_path<'a>(inputs: &Inputs<'a>) -> &'a str {
-    if inputs.script.is_empty() {
-        inputs.options.edits.unwrap_or("")
-    } else {
-        inputs.script
-    }
-}
-
-/// The line of this number, counted from 1.
-fn line_at(script: &[u8], number: u64) -> Option<&[u8]> {
-    let mut rest = script;
-    let mut found = None;
-    for _ in 0..number {
-        let (line, behind) = next_line(rest)?;
-        found = Some(line);
-        rest = behind;
-    }
-    found
 }
 
 /// What is wrong in a line.

@@ -1,7 +1,7 @@
 //! A graph file that gives no graph.
 
 use crate::files::missing;
-use crate::lookup::bytes_at;
+use file_lookup::bytes_at;
 use map_base::NoMemory;
 use message_texts::{plain, quoted};
 use run_status::GraphWhy;

@@ -1,12 +1,12 @@
 //! A bad row of a feed: its field, the value there, and what is due.
 
 use crate::feed_path::missing_table;
-use crate::lookup::bytes_at;
-use crate::row_lookup::{FoundRow, Sought, earlier_row, row_at};
-use crate::table_ids::{ids_at, question};
-use gtfs_fields::whole;
-use map_base::{NoMemory, Text};
-use message_texts::{column_of, due_in, id_column, list_of, quoted, required_column};
+use crate::near_word::question;
+use file_lookup::{
+    FoundRow, bytes_at, earlier_row, ids_at, lacking_column, other_names, row_at, sought_in,
+};
+use map_base::NoMemory;
+use message_texts::{column_of, due_in, id_column, list_of, quoted};
 use run_status::file_name;
 use std::alloc::Global;
 use std::rt::Files;
@@ -14,9 +14,6 @@ use table_rows::{Table, Why};
 
 /// How many names of columns, or fields of a row, are told.
 const TOLD: usize = 20;
-
-/// How many columns a table has to have at most.
-const MOST_REQUIRED: usize = 4;
 
 /// A bad row of a table: its number, and why it is bad.
 #[derive(Clone, Copy)]
@@ -74,7 +71,7 @@ fn lacks_column(alloc: Global, table: Table, found: &FoundRow) -> Result<String,
     let name = file_name(table);
     let names = found.names(alloc)?;
     let list = list_of(alloc, names.as_slice(), TOLD)?;
-    match lacking(table, found) {
+    match lacking_column(table, found) {
         Some(column) => {
             let other = other_names(alloc, table, names)?;
             let near = question(alloc, column.as_bytes(), other.as_slice())?;
@@ -84,39 +81,6 @@ fn lacks_column(alloc: Global, table: Table, found: &FoundRow) -> Result<String,
         }
         None => Ok(format!(in alloc; "octimap: {name} lacks a column; its columns are {list}\n")?),
     }
-}
-
-/// The first column that a table has to have, and hasn't.
-fn lacking(table: Table, found: &FoundRow) -> Option<&'static str> {
-    for place in 0..MOST_REQUIRED {
-        let column = required_column(table, place)?;
-        if found.column(column).is_none() {
-            return Some(column);
-        }
-    }
-    None
-}
-
-/// The names that are none of the columns that a table has to have.
-fn other_names(alloc: Global, table: Table, names: Vec<Text>) -> Result<Vec<Text>, NoMemory> {
-    let mut other = Vec::new(alloc);
-    for name in names {
-        if !is_required(table, name.as_str()) {
-            other.push(name)?;
-        }
-    }
-    Ok(other)
-}
-
-/// Whether a table has to have this column.
-fn is_required(table: Table, name: &str) -> bool {
-    for place in 0..MOST_REQUIRED {
-        match required_column(table, place) {
-            Some(column) if column == name => return true,
-            _ => {}
-        }
-    }
-    false
 }
 
 /// A row ends before a field that has to be there.
@@ -202,7 +166,7 @@ fn repeated(
     found: &FoundRow,
     bytes: &[u8],
 ) -> Result<String, NoMemory> {
-    let earlier = match sought_in(bad, found) {
+    let earlier = match sought_in(bad.table, bad.why, found) {
         Some(sought) => earlier_row(alloc, bytes, &sought, bad.row)?,
         None => None,
     };
@@ -211,28 +175,6 @@ fn repeated(
         None => String::new(alloc),
     };
     bad_field(alloc, bad, found, said.as_str(), "")
-}
-
-/// What is looked for in earlier rows.
-fn sought_in<'a>(bad: BadRow, found: &'a FoundRow) -> Option<Sought<'a>> {
-    let id_name = id_column(bad.table).unwrap_or("trip_id");
-    let id_column = found.column(id_name)?;
-    let id = found.field(id_name);
-    if bad.why == Why::RepeatedId {
-        return Some(Sought {
-            id_column,
-            id,
-            number_column: None,
-            number: None,
-        });
-    }
-    let number_name = column_of(bad.table, bad.why)?;
-    Some(Sought {
-        id_column,
-        id,
-        number_column: found.column(number_name),
-        number: whole(found.field(number_name)),
-    })
 }
 
 /// A row names what another table, or another row, doesn't have.

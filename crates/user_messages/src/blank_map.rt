@@ -1,18 +1,15 @@
 //! A map that was made, and shows nothing; and one with stations far from all others.
 
-use crate::lookup::{begins_with, is_plain};
-use crate::network::network_of;
-use crate::table_ids::ids_at;
+use crate::station_words::far_line;
 use command_inputs::Inputs;
 use command_words::Command;
-use disk_door::DiskFiles;
+use file_lookup::{begins_with, has_far_stations, ids_at, network_of};
 use gtfs_fields::whole;
-use map_base::{NoMemory, Point, Text};
-use message_texts::{far_stations, quoted};
+use map_base::{NoMemory, Text};
+use message_texts::quoted;
 use std::alloc::Global;
 use std::fmt::Write;
 use std::rt::Files;
-use stop_table::read_stations;
 
 /// How the certificate of a graph without nodes begins.
 const OF_NOTHING: &[u8] = b"octimap 1\ngraph 0 0 0\n";
@@ -20,8 +17,8 @@ const OF_NOTHING: &[u8] = b"octimap 1\ngraph 0 0 0\n";
 /// How many types of routes are told.
 const TOLD: usize = 12;
 
-/// The lines for a map that was made and shows nothing, and for a picture of such a map: which routes the feed has, and what
-/// to do. Empty for all other commands, and for all other maps.
+/// The lines for a map that was made and shows nothing, and for a picture of such a map: which routes the feed has, and
+/// what to do. Empty for all other commands, and for all other maps.
 pub(crate) fn blank_map<R: Files + AllocGlobal>(
     rt: &R,
     command: &Command<'_>,
@@ -46,7 +43,7 @@ fn of_certificate<R: Files + AllocGlobal>(
     if begins_with(rt, certificate, OF_NOTHING) {
         routes_line(rt, inputs)
     } else {
-        far_line(rt, command, inputs)
+        of_far_stations(rt, command, inputs)
     }
 }
 
@@ -79,7 +76,7 @@ fn of_graph_file<R: Files + AllocGlobal>(
 
 /// A line for stations of the map that lie far from all others. The network is looked at only where the feed has such
 /// stations.
-fn far_line<R: Files + AllocGlobal>(
+fn of_far_stations<R: Files + AllocGlobal>(
     rt: &R,
     command: &Command<'_>,
     inputs: &Inputs<'_>,
@@ -89,31 +86,9 @@ fn far_line<R: Files + AllocGlobal>(
         return Ok(String::new(alloc));
     }
     match network_of(rt, command, inputs)? {
-        Some(network) => network.far_line(alloc),
+        Some(network) => far_line(alloc, &network),
         None => Ok(String::new(alloc)),
     }
-}
-
-/// Whether stations of a feed, drawn or not, lie far from all others. A degree counts as 111 kilometres either way.
-fn has_far_stations<R: Files + AllocGlobal>(rt: &R, feed: &str) -> Result<bool, NoMemory> {
-    let alloc = rt.alloc();
-    let path = format!(in alloc; "{feed}/stops.txt")?;
-    if !is_plain(rt, path.as_str()) {
-        return Ok(false);
-    }
-    let mut files = DiskFiles::new(rt);
-    let Ok(stations) = read_stations(alloc, &mut files, feed) else {
-        return Ok(false);
-    };
-    let mut places = Vec::new(alloc);
-    for station in stations.iter() {
-        places.push(Point {
-            x: station.lon,
-            y: station.lat,
-        })?;
-    }
-    let far = far_stations(alloc, places.as_slice())?;
-    Ok(!far.is_empty())
 }
 
 /// How many routes a feed has, of which types, and what to do.

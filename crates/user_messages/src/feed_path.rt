@@ -1,6 +1,6 @@
 //! A folder of a feed in which a table is missing: what it seems to be, and what to do.
 
-use crate::lookup::{Folder, folder_at, is_archive, is_plain};
+use file_lookup::{Folder, folder_at, found_file, inner_with};
 use map_base::NoMemory;
 use message_texts::{Found, Seeming, list_of, meant, path_seems, quoted};
 use std::alloc::Global;
@@ -19,17 +19,6 @@ pub(crate) fn missing_table<R: Files + AllocGlobal + Clone + Drop>(
     match folder_at(rt, feed)? {
         Some(folder) => in_folder(rt, feed, name, &folder),
         None => no_folder(alloc, feed, path_seems(feed, found_file(rt, feed))),
-    }
-}
-
-/// What lies at a path that is no folder.
-fn found_file<R: Files>(rt: &R, path: &str) -> Found {
-    if is_plain(rt, path) {
-        Found::File {
-            is_zip: is_archive(rt, path),
-        }
-    } else {
-        Found::Nothing
     }
 }
 
@@ -63,7 +52,7 @@ fn in_folder<R: Files + AllocGlobal>(
     folder: &Folder,
 ) -> Result<String, NoMemory> {
     let alloc = rt.alloc();
-    let inner = inner_of(rt, feed, name, folder)?;
+    let inner = inner_with(rt, feed, name, folder)?;
     let found = Found::Folder {
         has_table: false,
         has_inner: inner.is_some(),
@@ -74,24 +63,6 @@ fn in_folder<R: Files + AllocGlobal>(
         Seeming::HoldsPacked => holds_packed(alloc, feed, name, folder),
         _ => other(alloc, feed, name, folder),
     }
-}
-
-/// The first folder of a folder that has the table.
-fn inner_of<'a, R: Files + AllocGlobal>(
-    rt: &R,
-    feed: &str,
-    name: &str,
-    folder: &'a Folder,
-) -> Result<Option<&'a str>, NoMemory> {
-    let alloc = rt.alloc();
-    for inner in &folder.folders {
-        let inner = inner.as_str();
-        let table = format!(in alloc; "{feed}/{inner}/{name}")?;
-        if is_plain(rt, table.as_str()) {
-            return Ok(Some(inner));
-        }
-    }
-    Ok(None)
 }
 
 /// A folder with a folder in it that has the table.

@@ -1,7 +1,7 @@
 //! Files that are not there, can't be read, or can't be written.
 
-use crate::lookup::{is_folder, read_fault};
 use disk_door::WriteError;
+use file_lookup::{is_folder, read_fault};
 use map_base::NoMemory;
 use message_texts::quoted;
 use std::alloc::Global;

@@ -1,6 +1,6 @@
 //! The lines that a user gets on standard error beside the exact line of a status: what is wrong in words, with what
-//! stands in the files, and what to do. The files are looked up again after a run, and nothing is promised but that a
-//! call returns. Files that are no plain files, as pipes, are not looked at.
+//! stands in the files, and what to do. What stands there file_lookup finds again after a run, and nothing is promised
+//! but that a call returns.
 #![tactic(auto)]
 
 mod bad_edit;
@@ -11,12 +11,10 @@ mod blank_map;
 mod feed_path;
 mod files;
 mod limits;
-mod lookup;
 mod messages;
-mod network;
+mod near_word;
 mod no_route;
 mod refuted;
-mod row_lookup;
-mod table_ids;
+mod station_words;
 
 pub use messages::message;

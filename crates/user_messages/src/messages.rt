@@ -18,8 +18,9 @@ use run_status::Status;
 use std::alloc::Global;
 use std::rt::Files;
 
-/// The lines that standard error gets after a run of the program on these words that ended with this status, each with an
-/// LF at its end: empty where nothing is to be said. `fault` is the last error of the system in writing, if there was one.
+/// The lines that standard error gets after a run of the program on these words that ended with this status, each with
+/// an LF at its end: empty where nothing is to be said. `fault` is the last error of the system in writing, if there
+/// was one.
 pub fn message<R: Files + AllocGlobal + Clone + Drop>(
     rt: &R,
     words: &[String],

@@ -1,8 +1,9 @@
 //! No grid gives each segment a way.
 
-use crate::network::{Network, network_of};
+use crate::station_words::{far_line, node_name};
 use command_inputs::Inputs;
 use command_words::Command;
+use file_lookup::{Network, network_of};
 use map_base::{NoMemory, NodeId, SegId};
 use map_method::Defaults;
 use std::alloc::Global;
@@ -20,7 +21,7 @@ pub(crate) fn no_route<R: Files + AllocGlobal>(
     if let Some(network) = network_of(rt, command, inputs)? {
         let line = between(alloc, &network, seg)?;
         text.push_str(line.as_str())?;
-        let line = network.far_line(alloc)?;
+        let line = far_line(alloc, &network)?;
         text.push_str(line.as_str())?;
     }
     text.push_str(hint(command, inputs.options.defaults))?;
@@ -33,8 +34,8 @@ fn between(alloc: Global, network: &Network, seg: SegId) -> Result<String, NoMem
         return Ok(String::new(alloc));
     }
     let (low, up) = network.graph.ends(seg);
-    let one = network.name(alloc, low)?;
-    let other = network.name(alloc, up)?;
+    let one = node_name(alloc, network, low)?;
+    let other = node_name(alloc, network, up)?;
     let crowd = crowd(alloc, network, low, up)?;
     Ok(format!(in alloc;
         "octimap: on no grid that was tried is there a free way from {one} to {other}{crowd}\n"
@@ -43,22 +44,13 @@ fn between(alloc: Global, network: &Network, seg: SegId) -> Result<String, NoMem
 
 /// What is said where more than eight segments meet at an end.
 fn crowd(alloc: Global, network: &Network, low: NodeId, up: NodeId) -> Result<String, NoMemory> {
-    let most = meeting(network, low).max(meeting(network, up));
+    let most = network.meeting(low).max(network.meeting(up));
     if most > 8 {
         return Ok(format!(in alloc;
             "; {most} segments meet at one of them, and the grid has eight directions"
         )?);
     }
     Ok(String::new(alloc))
-}
-
-/// How many segments meet at a node.
-fn meeting(network: &Network, node: NodeId) -> usize {
-    if node.0 < network.graph.nodes() {
-        network.graph.round(node).len()
-    } else {
-        0
-    }
 }
 
 /// What may do.

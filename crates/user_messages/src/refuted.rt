@@ -34,21 +34,25 @@ fn sentence_of_check(item: &CheckItem) -> &'static str {
             "from this byte on the certificate can't be read; is it cut short, changed, or no certificate at all?"
         }
         CheckItem::Graph => {
-            "the certificate is of another network; were the feed, the settings and the edits the same when it was made?"
+            "the certificate is of another network; were the feed, the settings and the edits the same when it was \
+             made?"
         }
         CheckItem::Importance => {
             "the certificate was made with another importance of lines; give the same settings and edits"
         }
         CheckItem::Walk { .. } => {
-            "with the way of this segment the drawing is not legal: ways leave the grid, meet, or turn the order round a node"
+            "with the way of this segment the drawing is not legal: ways leave the grid, meet, or turn the order \
+             round a node"
         }
         CheckItem::Order { .. } => "the order of this segment does not name each of its lines once",
         CheckItem::Cost => {
-            "the line orders cost more or less than the certificate says; were junction, station and importance the same?"
+            "the line orders cost more or less than the certificate says; were junction, station and importance the \
+             same?"
         }
         CheckItem::Proof(found) => sentence_of_proof(found),
         CheckItem::Picture { .. } => {
-            "from this byte on the map is not the picture of its certificate; was it changed, or have names or colours in the feed?"
+            "from this byte on the map is not the picture of its certificate; was it changed, or have names or colours \
+             in the feed?"
         }
     }
 }
@@ -60,9 +64,12 @@ fn sentence_of_proof(item: &ProofItem) -> &'static str {
             "this rule of the proof may not be applied there; were junction, station and importance the same?"
         }
         ProofItem::Part { .. } => {
-            "this part of the proof does not show that no line orders cost less; were junction, station and importance the same?"
+            "this part of the proof does not show that no line orders cost less; were junction, station and importance \
+             the same?"
         }
-        ProofItem::Total =>
-            "the parts of the proof do not sum to the cost of the certificate; is it a map with a bound (proof = \"bound\")?",
+        ProofItem::Total => {
+            "the parts of the proof do not sum to the cost of the certificate; is it a map with a bound \
+             (proof = \"bound\")?"
+        }
     }
 }

@@ -3,7 +3,7 @@
 use crate::boards::{at, run};
 use crate::drawings::{bent_line, expect_walk};
 use crate::graphs::three_in_a_row;
-use line_straightening::straighten;
+use kept_walks::straighten;
 use octi_grid::{Dir, check_drawing};
 use std::test::Fail;
 

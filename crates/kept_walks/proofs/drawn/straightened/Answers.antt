@@ -1,6 +1,6 @@
 use Rattle.std.proofs.Common.{◌∙◌, ap, ℕ, arith}
-use Rattle.line_straightening.specs.Straightening as straightening
-use Rattle.line_straightening.proofs.Promised.{farther}
+use Rattle.kept_walks.specs.Straightening as straightening
+use Rattle.kept_walks.proofs.Promised.{farther}
 use Rattle.kept_walks.proofs.Straight.{not_straightened}
 use Rattle.kept_walks.proofs.drawn.straightened.Goals as goal
 

@@ -9,7 +9,8 @@ use Rattle.command_inputs.specs.Inputs.{input_at, inputs_by}
 use Rattle.map_commands.specs.MapWorks.{certificate_work, picture_work}
 use Rattle.run_status.specs.Following.{Follows}
 use Rattle.map_commands.specs.Promises.{IsAccepted}
-use Rattle.map_commands.proofs.CheckLemmas.{Told, same_outputs, refused_load, graph_refused, certificate_refused, picture_follows, says_yes}
+use Rattle.run_status.proofs.FollowLemmas.{Told}
+use Rattle.map_commands.proofs.CheckLemmas.{same_outputs, refused_load, graph_refused, certificate_refused, picture_follows, says_yes}
 use Rattle.map_commands.proofs.check_command.check_map.Goals as goal
 
 pub returns-in_err-loaded-clause-follows : goal.returns-in_err-loaded-clause-follows

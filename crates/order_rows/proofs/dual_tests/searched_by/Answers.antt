@@ -2,7 +2,7 @@ use Rattle.std.proofs.lemmas.Result.{IfOk-weaker}
 use Rattle.order_values.specs.DualTrees.{plain_dual}
 use Rattle.order_proof.specs.Trees.{IsProofDual}
 use Rattle.dual_ascent.specs.Shown.{IsShown}
-use Rattle.dual_search.specs.Finding.{result_found}
+use Rattle.kept_trees.specs.Finding.{result_found}
 use Rattle.order_rows.proofs.DualTrees.{proof_dual}
 use Rattle.order_rows.proofs.dual_tests.searched_by.Goals as goal
 

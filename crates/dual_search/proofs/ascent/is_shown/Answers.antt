@@ -1,6 +1,0 @@
-use Rattle.dual_search.proofs.Composing.{incumbent_within}
-use Rattle.dual_search.proofs.ascent.is_shown.Goals as goal
-
-pub shows-requires : goal.shows-requires
-shows-requires c = incumbent_within c.args.search.now.part.problem.now c.args.now.now.incumbent
-    c.requires.search.part.fits c.requires.now.incumbent

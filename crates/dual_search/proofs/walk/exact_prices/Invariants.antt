@@ -1,6 +1,0 @@
-use Rattle.std.proofs.Common.{◌≡◌, map, take}
-use Rattle.dual_search.proofs.Listing.{exact_by}
-use Rattle.dual_search.proofs.walk.exact_prices.Given as goal
-
-abbrev pub invariant-loop-term : goal.invariant-loop-term
-invariant-loop-term l = l.prices.items ≡ map (exact_by l.orders) (take l.term-index l.problem.terms)

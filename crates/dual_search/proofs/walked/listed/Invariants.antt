@@ -1,6 +1,0 @@
-use Rattle.std.proofs.Common.{◌≡◌, take}
-use Rattle.dual_ascent.specs.OwnNumbers.{listed}
-use Rattle.dual_search.proofs.walked.listed.Given as goal
-
-abbrev pub invariant-loop-k : goal.invariant-loop-k
-invariant-loop-k l = l.list.items ≡ listed (take l.k l.prices)

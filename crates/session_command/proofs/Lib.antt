@@ -1,3 +1,0 @@
-mod EditLemmas
-mod LineLemmas
-pub mod PlayLemmas

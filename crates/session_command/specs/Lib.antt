@@ -1,5 +1,0 @@
-pub mod DrawTexts
-pub mod SessionWorks
-pub mod Stages
-pub mod Promises
-pub mod Playing
