@@ -56,4 +56,4 @@ numbered f a n j e = ap (flat_map f) (range_more a n j e) ∙ flat_map-append f 
     ∙ ap (λ xs. flat_map f (range_with_len a n) ++ xs) (append-nil (f j))
 
 pub areas-numbered : (f : ℕ → List Bounds) (n : ℕ) → areas (flat_map f (range_with_len 0 (n + 1))) ≡ areas (flat_map f (range_with_len 0 n)) ++ areas (f n)
-areas-numbered f n = ap areas (numbered f 0 n n refl) ∙ map-append (λ (b : Bounds). let t : Thing = Area b in t) (flat_map f (range_with_len 0 n)) (f n)
+areas-numbered f n = ap areas (numbered f 0 n n (omega arith)) ∙ map-append (λ (b : Bounds). let t : Thing = Area b in t) (flat_map f (range_with_len 0 n)) (f n)
