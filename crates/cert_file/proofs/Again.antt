@@ -1,15 +1,14 @@
 -- What is written of a certificate in range is read again.
-use Rattle.std.proofs.Common.{◌≡◌, ℕ, zero, suc, ◌+◌, ◌-◌, ◌<◌, ◌≤◌, ◌^◌, ℤ, pos, negsuc, Bool, true, false, cond, not, ◌&&◌, eqb, ltb, List, [], ◌∷◌, ◌++◌, codes, length, take, drop, replicate, Option, Some, None, option_map, Result, Ok, Err, unsigned_abs, refl, ap, subst, sym, ◌∙◌, append_assoc, length-append, lt-ltb, arith}
+use Rattle.std.proofs.Common.{◌≡◌, ℕ, suc, ◌+◌, ◌-◌, ◌<◌, ◌≤◌, ℤ, pos, negsuc, Bool, true, false, cond, not, ◌&&◌, eqb, ltb, List, [], ◌∷◌, ◌++◌, codes, length, take, drop, replicate, Option, Some, None, option_map, unsigned_abs, refl, ap, subst, sym, ◌∙◌, lt-ltb, arith}
 use Rattle.std.specs.Option.{option_and_then}
 use Rattle.std.specs.List.{AllByRecursion, list_all, position_or_len}
 use Rattle.std.specs.Char.{is_ascii_digit}
 use Rattle.std.specs.Str.{bytes_eq, all_ascii_digits}
 use Rattle.std.specs.Fmt.{decimal, signed_decimal}
-use Rattle.std.proofs.lemmas.Bool.{eq-eqb, eqb-true}
+use Rattle.std.proofs.lemmas.Bool.{and_parts, eq-eqb, eqb-true}
 use Rattle.std.proofs.lemmas.Fmt.{decimal_nonempty}
-use Rattle.std.proofs.lemmas.List.{take_at, drop_at, append-nil}
+use Rattle.std.proofs.lemmas.List.{take_at, drop_at}
 use Rattle.std.proofs.lemmas.Slice.Eq.{bytes_eq-Decides}
-use Rattle.std.proofs.lemmas.Int.{ints}
 use Rattle.map_base.specs.declared.ids.LineId.{LineId}
 use Rattle.octi_grid.specs.declared.dir.Dir.{Dir}
 use Rattle.octi_grid.specs.declared.dir.Dir.TheVariants as dir
@@ -20,20 +19,17 @@ use Rattle.octi_grid.specs.Runs.{are_runs, turns_next, steps_of, IsShort}
 use Rattle.octi_grid.specs.Walks.{PlainWalk, IsWalk, walk_of as grid_walk, fits, walk_by}
 use Rattle.octi_grid.proofs.WayLemmas.{first_of-points, test-from_All}
 use Rattle.octi_grid.proofs.RunLemmas.{same_direction, first_count, rest_are_runs, runs-some, AreShort-from_within}
-use Rattle.decimal_text.specs.Numbers.{natural_within, from_to, number_of as number_in, numbers_of}
-use Rattle.decimal_text.specs.Lines.{numbered, front, words_text, numbers_text}
+use Rattle.decimal_text.specs.Numbers.{natural_within, from_to, number_of as number_in}
+use Rattle.decimal_text.specs.Lines.{front, numbers_text}
 use Rattle.decimal_text.proofs.NumberLemmas.{IsNumber, up_to_within, number_again, digits_written}
 use Rattle.decimal_text.proofs.RangeLemmas.{from_to_again}
-use Rattle.decimal_text.proofs.LineLemmas.{Lacks, lacks-append, IsWord, AreWords, AreNumbers, number_is_word, paired, front_again, numbered_again}
+use Rattle.decimal_text.proofs.LineLemmas.{lacks-append, IsWord, AreWords, AreNumbers, number_is_word, paired, front_again, numbered_again}
 use Rattle.cert_file.specs.declared.counts.Counts.{Counts}
 use Rattle.cert_file.specs.RunWords.{with_step, runs_of, dir_text, run_word, run_words, dir_of, most_steps, run_with, name_end, run_of, run_before, runs_in}
-use Rattle.cert_file.specs.Forms.{most_id, most_nodes, most_segs, most_lines, most_importance, most_cost, line_id, spoken, spoken_front, version_of, counts_with, counts_of, pair_with, pair_of, pairs_from, importance_of, is_number, walk_with, walk_of, walk_in, are_distinct, lines_in, distinct, order_in, order_of, cost_of}
-use Rattle.cert_file.specs.Text as texts
-use Rattle.cert_file.specs.Text.{pair_numbers, line_numbers, walk_words, walk_text, walks_text, order_text, orders_text}
+use Rattle.cert_file.specs.Forms.{most_id, most_nodes, most_segs, most_lines, most_importance, most_cost, line_id, spoken, spoken_front, version_of, counts_with, counts_of, pair_with, pair_of, pairs_from, importance_of, walk_with, walk_of, walk_in, lines_in, distinct, order_in, order_of, cost_of}
+use Rattle.cert_file.specs.Text.{pair_numbers, line_numbers, walk_words, walk_text}
 use Rattle.cert_file.specs.Ranges.{ArePairs, IsOrder}
-
-abbrev some : {A : Type 0} → A → Option A
-some x = Some x
+use Rattle.cert_file.proofs.FormLemmas.{some}
 
 -- ---- lines of a word and numbers
 
@@ -76,8 +72,7 @@ lines_again (l ∷ rest) few =
 
 pub order_again : (s : ℕ) (ls : List LineId) → IsOrder ls → order_of s (pos s ∷ line_numbers ls) ≡ Some ls
 order_again s [] is = absurd (omega (arith, is.some))
-order_again s (l ∷ ls) is =
-    ap (λ (b : Bool). cond b (order_in (line_numbers (l ∷ ls))) None) (eq-eqb s s refl)
+order_again s (l ∷ ls) is = ap (λ (b : Bool). cond b (order_in (line_numbers (l ∷ ls))) None) (eq-eqb s s refl)
     ∙ ap (option_and_then distinct) (lines_again (l ∷ ls) is.range)
     ∙ ap (λ (b : Bool). cond b (some (l ∷ ls)) None) is.distinct
 
@@ -88,32 +83,19 @@ cost_again k few = up_to_within most_cost k few
 
 dir_again : (d : Dir) → dir_of (dir_text d) ≡ Some d
 dir_again dir.N = refl
-dir_again dir.NE = refl
-dir_again dir.E = refl
-dir_again dir.SE = refl
-dir_again dir.S = refl
-dir_again dir.SW = refl
-dir_again dir.W = refl
-dir_again dir.NW = refl
+dir_again d = refl
 
 -- a name is cut off before a digit
 digit_first : (ds : List ℕ) → all_ascii_digits ds ≡ true → 0 < length ds → position_or_len is_ascii_digit ds ≡ 0
 digit_first [] digits some = absurd (omega arith)
-digit_first (c ∷ cs) digits some = ap (λ (b : Bool). cond (not b) (1 + position_or_len is_ascii_digit cs) 0) (first (is_ascii_digit c) (all_ascii_digits cs) digits)
-  where
-    first : (a b : Bool) → (a && b) ≡ true → a ≡ true
-    first true b e = refl
-    first false b e = absurd cc
+digit_first (c ∷ cs) digits some = ap (λ (b : Bool). cond (not b) (1 + position_or_len is_ascii_digit cs) 0) (and_parts (is_ascii_digit c) (all_ascii_digits cs) digits).0
 
 name_cut : (d : Dir) (ds : List ℕ) → position_or_len is_ascii_digit ds ≡ 0 → name_end (dir_text d ++ ds) ≡ length (dir_text d)
-name_cut dir.N ds e = ap (λ (n : ℕ). 1 + n) e
 name_cut dir.NE ds e = ap (λ (n : ℕ). 1 + (1 + n)) e
-name_cut dir.E ds e = ap (λ (n : ℕ). 1 + n) e
 name_cut dir.SE ds e = ap (λ (n : ℕ). 1 + (1 + n)) e
-name_cut dir.S ds e = ap (λ (n : ℕ). 1 + n) e
 name_cut dir.SW ds e = ap (λ (n : ℕ). 1 + (1 + n)) e
-name_cut dir.W ds e = ap (λ (n : ℕ). 1 + n) e
 name_cut dir.NW ds e = ap (λ (n : ℕ). 1 + (1 + n)) e
+name_cut d ds e = ap (λ (n : ℕ). 1 + n) e
 
 run_again : (r : Run) → 1 ≤ r.count → r.count ≤ most_steps → run_of (run_word r) ≡ Some r
 run_again r low high =
@@ -140,24 +122,17 @@ runs_read_again (r ∷ rest) good =
 
 -- ---- steps as runs
 
-turns_apart : (d : Dir) (r : Run) (rs : List Run) → eqb (number_of d) (number_of r.dir) ≡ false → turns_next d (r ∷ rs) ≡ true
-turns_apart d r rs e = ap not e
-
 -- a step before runs makes runs
 with_step_runs : (d : Dir) (rs : List Run) → are_runs rs ≡ true → are_runs (with_step d rs) ≡ true
 with_step_runs d [] e = refl
 with_step_runs d (r ∷ rs) e = by (eqb (number_of d) (number_of r.dir)) refl
   where
-    and_parts : (a b : Bool) → (a && b) ≡ true → (a ≡ true) × (b ≡ true)
-    and_parts true b e = (refl, e)
-    and_parts false b e = absurd cc
-
     by : (b : Bool) → eqb (number_of d) (number_of r.dir) ≡ b → are_runs (cond b (record { dir = r.dir; count = suc r.count } ∷ rs) (record { dir = d; count = 1 } ∷ r ∷ rs)) ≡ true
     by true same =
         let outer = and_parts (ltb 0 r.count && turns_next r.dir rs) (are_runs rs) e in
         let inner = and_parts (ltb 0 r.count) (turns_next r.dir rs) outer.0 in
         ap (λ (b : Bool). (ltb 0 (suc r.count) && b) && are_runs rs) inner.1 ∙ ap (λ (b : Bool). (b && true) && are_runs rs) (lt-ltb 0 (suc r.count) (omega arith)) ∙ outer.1
-    by false apart = ap (λ (b : Bool). (true && b) && are_runs (r ∷ rs)) (turns_apart d r rs apart) ∙ e
+    by false apart = ap (λ (b : Bool). (true && b) && are_runs (r ∷ rs)) (ap not apart) ∙ e
 
 pub runs_of_runs : (ds : List Dir) → are_runs (runs_of ds) ≡ true
 runs_of_runs [] = refl
@@ -168,10 +143,7 @@ with_step_steps d [] = refl
 with_step_steps d (r ∷ rs) = by (eqb (number_of d) (number_of r.dir)) refl
   where
     by : (b : Bool) → eqb (number_of d) (number_of r.dir) ≡ b → steps_of (cond b (record { dir = r.dir; count = suc r.count } ∷ rs) (record { dir = d; count = 1 } ∷ r ∷ rs)) ≡ d ∷ steps_of (r ∷ rs)
-    by true same = ap (λ (x : Dir). x ∷ (replicate r.count r.dir ++ steps_of rs)) (sym (same_direction d r.dir (eqb_is same)))
-      where
-        eqb_is : eqb (number_of d) (number_of r.dir) ≡ true → number_of d ≡ number_of r.dir
-        eqb_is e = eqb-true (number_of d) (number_of r.dir) e
+    by true same = ap (λ (x : Dir). x ∷ (replicate r.count r.dir ++ steps_of rs)) (sym (same_direction d r.dir (eqb-true (number_of d) (number_of r.dir) same)))
     by false apart = refl
 
 pub steps_again : (ds : List Dir) → steps_of (runs_of ds) ≡ ds
@@ -185,9 +157,6 @@ good_runs (r ∷ rs) e short = ((first_count r rs e, short.0), good_runs rs (res
 small : (z : ℤ) → unsigned_abs z ≤ 10000 → IsNumber z
 small (pos n) few = omega (arith, few)
 small (negsuc n) few = omega (arith, few)
-
-number_this : (s : ℕ) → is_number s (pos s) ≡ true
-number_this s = eq-eqb s s refl
 
 fits_again : (p : GridPoint) (ds : List Dir) → IsWalk (record { start = p; steps = ds }) → walk_by p (runs_of ds) ≡ Some (record { start = p; steps = ds })
 fits_again p ds walk =
@@ -208,18 +177,14 @@ walk_of_again s w few walk =
     ∙ ap (λ (o : Option ℤ). walk_with s (Some (pos s)) o (number_in (signed_decimal w.start.y)) (runs_in (run_words runs))) (number_again w.start.x (small w.start.x at.across))
     ∙ ap (λ (o : Option ℤ). walk_with s (Some (pos s)) (Some w.start.x) o (runs_in (run_words runs))) (number_again w.start.y (small w.start.y at.along))
     ∙ ap (walk_with s (Some (pos s)) (Some w.start.x) (Some w.start.y)) (runs_read_again runs (good_runs runs (runs_of_runs w.steps) short))
-    ∙ ap (λ (b : Bool). cond b (walk_by w.start runs) None) (number_this s)
-    ∙ fits_again w.start w.steps walk
+    ∙ ap (λ (b : Bool). cond b (walk_by w.start runs) None) (eq-eqb s s refl) ∙ fits_again w.start w.steps walk
 
 dir_is_word : (d : Dir) → IsWord (dir_text d)
-dir_is_word dir.N = record { no_space = (refl, tt); no_end = (refl, tt) }
 dir_is_word dir.NE = record { no_space = (refl, (refl, tt)); no_end = (refl, (refl, tt)) }
-dir_is_word dir.E = record { no_space = (refl, tt); no_end = (refl, tt) }
 dir_is_word dir.SE = record { no_space = (refl, (refl, tt)); no_end = (refl, (refl, tt)) }
-dir_is_word dir.S = record { no_space = (refl, tt); no_end = (refl, tt) }
 dir_is_word dir.SW = record { no_space = (refl, (refl, tt)); no_end = (refl, (refl, tt)) }
-dir_is_word dir.W = record { no_space = (refl, tt); no_end = (refl, tt) }
 dir_is_word dir.NW = record { no_space = (refl, (refl, tt)); no_end = (refl, (refl, tt)) }
+dir_is_word d = record { no_space = (refl, tt); no_end = (refl, tt) }
 
 joined_word : (a b : List ℕ) → IsWord a → IsWord b → IsWord (a ++ b)
 joined_word a b x y = record { no_space = lacks-append _ a b x.no_space y.no_space; no_end = lacks-append _ a b x.no_end y.no_end }

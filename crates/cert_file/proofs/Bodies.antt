@@ -1,5 +1,5 @@
 -- Importance, walks and orders, line by line.
-use Rattle.std.proofs.Common.{◌≡◌, ℕ, zero, suc, ℤ, ◌+◌, ◌-◌, ◌<◌, ◌≤◌, eqb, Bool, true, false, cond, List, [], ◌∷◌, ◌++◌, codes, length, Option, Some, None, option_map, Result, Ok, Err, refl, ap, subst, sym, ◌∙◌, append_assoc, length-append, arith}
+use Rattle.std.proofs.Common.{◌≡◌, ℕ, suc, ℤ, ◌+◌, ◌-◌, ◌<◌, Bool, cond, List, [], ◌∷◌, ◌++◌, codes, length, Some, None, Ok, Err, refl, ap, subst, sym, ◌∙◌, append_assoc, length-append, arith}
 use Rattle.std.specs.List.{AllByRecursion}
 use Rattle.std.proofs.lemmas.Bool.{eq-eqb, ne_eqb}
 use Rattle.std.proofs.lemmas.List.{append-nil}
@@ -7,13 +7,13 @@ use Rattle.map_base.specs.declared.ids.LineId.{LineId}
 use Rattle.octi_grid.specs.Walks.{PlainWalk, IsWalk}
 use Rattle.decimal_text.specs.Lines.{front, numbers_text}
 use Rattle.decimal_text.specs.Reading.{reading}
-use Rattle.decimal_text.proofs.LineLemmas.{changed, front_map}
+use Rattle.decimal_text.proofs.LineLemmas.{front_map}
 use Rattle.decimal_text.proofs.Steps.{goes_on, stops, reading_nothing}
 use Rattle.cert_file.specs.Forms.{importance_of, order_of, spoken_front, walk_in, importance_in, orders_in}
-use Rattle.cert_file.specs.Text.{version_of, importance_text, walk_text, walks_text, order_text, orders_text, pair_numbers, line_numbers}
-use Rattle.cert_file.specs.Ranges.{ArePairs, IsOrder}
+use Rattle.cert_file.specs.Text.{version_of, importance_text, walk_text, walks_text, order_text, orders_text, pair_numbers}
+use Rattle.cert_file.specs.Ranges.{IsOrder}
 use Rattle.cert_file.specs.Reading.{Due, Importance, AWalk, AnOrder, after, importance_due, walks_due, orders_due}
-use Rattle.cert_file.specs.Readers.{AreImportanceOf, AreWalksOf, AreOrdersOf, IsVersion}
+use Rattle.cert_file.specs.Readers.{AreImportanceOf, AreWalksOf, AreOrdersOf}
 use Rattle.cert_file.proofs.FormLemmas.{spoken_is, spoken_text, importance_is, order_of_is}
 use Rattle.cert_file.proofs.WalkLemmas.{walk_line}
 
@@ -26,13 +26,11 @@ due_one : (version : ℕ) → (version ≡ 2 → ⊥) → importance_due version
 due_one version not = ap (λ (b : Bool). cond b (Importance ∷ []) []) (ne_eqb version 2 not)
 
 pub importance_stops : (version : ℕ) (text : List ℕ) → version ≡ 2 → spoken_front (codes "importance") importance_of text ≡ None → reading after (importance_due version) text ≡ Err text
-importance_stops version text is none =
-    ap (λ (due : List Due). reading after due text) (due_two version is)
+importance_stops version text is none = ap (λ (due : List Due). reading after due text) (due_two version is)
     ∙ stops after (λ (_ : List (LineId × ℕ)). []) importance_in Importance [] text (front_map (λ (_ : List (LineId × ℕ)). []) importance_in text) (spoken_is (codes "importance") importance_of text ∙ none)
 
 pub importance_goes_on : (version : ℕ) (text : List ℕ) (ps : List (LineId × ℕ)) (rest : List ℕ) → version ≡ 2 → spoken_front (codes "importance") importance_of text ≡ Some (ps, rest) → reading after (importance_due version) text ≡ Ok rest
-importance_goes_on version text ps rest is there =
-    ap (λ (due : List Due). reading after due text) (due_two version is)
+importance_goes_on version text ps rest is there = ap (λ (due : List Due). reading after due text) (due_two version is)
     ∙ goes_on after (λ (_ : List (LineId × ℕ)). []) importance_in Importance [] text ps rest (front_map (λ (_ : List (LineId × ℕ)). []) importance_in text) (spoken_is (codes "importance") importance_of text ∙ there)
     ∙ reading_nothing after rest
 

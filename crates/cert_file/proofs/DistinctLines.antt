@@ -1,44 +1,27 @@
 -- Distinct lines, and their numbers in order.
-use Rattle.std.proofs.Common.{◌≡◌, ℕ, ◌<◌, Bool, true, false, not, ◌&&◌, ◌||◌, ◌==◌, eqb, List, [], ◌∷◌, length, get_or, refl, ap, sym, ◌∙◌, IsTrue, arith}
+use Rattle.std.proofs.Common.{◌≡◌, ℕ, ◌<◌, Bool, true, false, not, ◌&&◌, ◌||◌, eqb, List, [], ◌∷◌, get_or, refl, ap, sym, ◌∙◌, IsTrue, arith}
 use Rattle.std.specs.Prelude.{◌↔◌}
 use Rattle.std.specs.List.{AllByRecursion, IsDistinct}
 use Rattle.std.specs.List.Sorted.{IsPermutation, IsNonDecreasing, IsStrictlyIncreasing}
-use Rattle.std.proofs.lemmas.Bool.{eqb-true, eq-eqb, ne_eqb}
+use Rattle.std.proofs.lemmas.Bool.{and_parts, ne_eqb, not-true, or_parts}
+use Rattle.std.proofs.lemmas.Bool.Decides.{nat_tests}
 use Rattle.std.proofs.lemmas.List.Sorted.{IsPermutation-sym}
 use Rattle.std.proofs.lemmas.Map.Keys.{IsDistinct-IsPermutation, IsStrictlyIncreasing-from_distinct, IsDistinct-head, IsDistinct-tail, IsDistinct-from_apart, below_from_sorted, sorted_from_strictly_increasing}
 use Rattle.map_base.specs.declared.ids.LineId.{LineId}
 use Rattle.cert_file.specs.Forms.{is_among, are_distinct, numbers_of_lines}
 
 flips : (m n : ℕ) → eqb m n ≡ eqb n m
-flips m n = by (eqb m n) (eqb n m) refl refl
-  where
-    by : (a b : Bool) → eqb m n ≡ a → eqb n m ≡ b → a ≡ b
-    by true true e f = refl
-    by true false e f = sym (sym f ∙ eq-eqb n m (sym (eqb-true m n e)))
-    by false true e f = sym (sym (eq-eqb m n (sym (eqb-true n m f))) ∙ e)
-    by false false e f = refl
+flips m n = grind (arith, nat_tests)
 
 -- a line that is none of others differs from each
 apart : (l : LineId) (rest : List LineId) → is_among rest l ≡ false → AllByRecursion (λ y. eqb l.0 y ≡ false) (numbers_of_lines rest)
 apart l [] none = tt
 apart l (m ∷ rest) none =
     let parts = or_parts (eqb m.0 l.0) (is_among rest l) none in (flips l.0 m.0 ∙ parts.0, apart l rest parts.1)
-  where
-    or_parts : (a b : Bool) → (a || b) ≡ false → (a ≡ false) × (b ≡ false)
-    or_parts true b e = absurd cc
-    or_parts false b e = (refl, e)
 
 among_none : (l : LineId) (rest : List LineId) → AllByRecursion (λ y. eqb l.0 y ≡ false) (numbers_of_lines rest) → is_among rest l ≡ false
 among_none l [] all = refl
 among_none l (m ∷ rest) all = ap (λ (b : Bool). b || is_among rest l) (flips m.0 l.0 ∙ all.0) ∙ among_none l rest all.1
-
-not_false : (b : Bool) → not b ≡ true → b ≡ false
-not_false true e = absurd cc
-not_false false e = refl
-
-and_parts : (a b : Bool) → (a && b) ≡ true → (a ≡ true) × (b ≡ true)
-and_parts true b e = (refl, e)
-and_parts false b e = absurd cc
 
 -- lines are distinct exactly where their numbers are
 numbers_distinct : (lines : List LineId) → are_distinct lines ≡ true → IsDistinct eqb (numbers_of_lines lines)
@@ -46,7 +29,7 @@ unfolding IsDistinct
 numbers_distinct [] e = tt
 numbers_distinct (l ∷ rest) e =
     let parts = and_parts (not (is_among rest l)) (are_distinct rest) e in
-    (apart l rest (not_false (is_among rest l) parts.0), numbers_distinct rest parts.1)
+    (apart l rest (not-true (is_among rest l) parts.0), numbers_distinct rest parts.1)
 
 lines_distinct : (lines : List LineId) → IsDistinct eqb (numbers_of_lines lines) → are_distinct lines ≡ true
 lines_distinct [] d = refl

@@ -1,8 +1,6 @@
 -- Small cases of the definitions.
-use Rattle.std.proofs.Common.{◌≡◌, ℕ, ℤ, pos, negsuc, List, [], ◌∷◌, ◌++◌, codes, length, replicate, Option, Some, None, Result, Ok, Err, refl}
+use Rattle.std.proofs.Common.{◌≡◌, ℕ, pos, negsuc, List, [], ◌∷◌, ◌++◌, codes, replicate, None, Ok, Err, refl}
 use Rattle.std.specs.Fmt.{digits}
-use Rattle.map_base.specs.declared.ids.LineId.{LineId}
-use Rattle.octi_grid.specs.declared.dir.Dir.{Dir}
 use Rattle.octi_grid.specs.declared.dir.Dir.TheVariants as dir
 use Rattle.octi_grid.specs.Walks.{PlainWalk}
 use Rattle.decimal_text.specs.Lines.{first_line, front}

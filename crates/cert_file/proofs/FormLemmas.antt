@@ -1,5 +1,5 @@
 -- What a line of each form says, and that it is the line which is written of it.
-use Rattle.std.proofs.Common.{◌≡◌, ℕ, suc, ◌<◌, ◌≤◌, ℤ, pos, negsuc, Bool, true, false, cond, eqb, List, [], ◌∷◌, ◌++◌, codes, length, Option, Some, None, option_map, refl, ap, subst, sym, ◌∙◌, arith}
+use Rattle.std.proofs.Common.{◌≡◌, ℕ, suc, ◌<◌, ◌≤◌, ℤ, pos, negsuc, Bool, true, false, cond, List, [], ◌∷◌, ◌++◌, length, Option, Some, None, option_map, refl, ap, subst, sym, ◌∙◌, arith}
 use Rattle.std.specs.Option.{option_and_then}
 use Rattle.std.specs.List.{AllByRecursion}
 use Rattle.std.specs.Str.{bytes_eq}
@@ -9,17 +9,17 @@ use Rattle.map_base.specs.declared.ids.LineId.{LineId}
 use Rattle.decimal_text.specs.Numbers.{natural_within, from_to}
 use Rattle.decimal_text.specs.Lines.{Line, numbered, front, words_text, numbers_text}
 use Rattle.decimal_text.proofs.RangeLemmas.{within_is, from_to_is}
-use Rattle.decimal_text.proofs.LineLemmas.{numerals, numerals_text, numbered_is, front_text, front_then}
+use Rattle.decimal_text.proofs.LineLemmas.{numerals_text, numbered_is, front_text, front_then}
 use Rattle.cert_file.specs.declared.counts.Counts.{Counts}
 use Rattle.cert_file.specs.Forms.{most_id, most_nodes, most_segs, most_lines, most_importance, most_cost, line_id, spoken, with_word, spoken_front, version_of, counts_with, counts_of, pair_with, pair_of, pairs_from, importance_of, is_number, are_distinct, lines_in, distinct, order_in, order_of, cost_of}
 use Rattle.cert_file.specs.Text as texts
 use Rattle.cert_file.specs.Text.{pair_numbers, line_numbers}
 use Rattle.cert_file.specs.Ranges.{ArePairs, IsOrder}
 
-abbrev some : {A : Type 0} → A → Option A
+abbrev pub some : {A : Type 0} → A → Option A
 some x = Some x
 
-some_is : {A : Type 0} (x y : A) → some x ≡ some y → x ≡ y
+pub some_is : {A : Type 0} (x y : A) → some x ≡ some y → x ≡ y
 some_is x y e = cc
 
 pub and_then_is : {A B : Type 0} (f : A → Option B) (o : Option A) (b : B) → option_and_then f o ≡ Some b → (a : A) × (o ≡ Some a) × (f a ≡ Some b)
@@ -57,9 +57,7 @@ spoken_text word form text a rest e =
     record {
       numbers = l.0.numbers;
       says = line.1;
-      text_is =
-          w.text_is
-          ∙ ap (λ (bytes : List ℕ). (bytes ++ words_text w.others) ++ rest) (is.0 ∙ line.0)
+      text_is = w.text_is ∙ ap (λ (bytes : List ℕ). (bytes ++ words_text w.others) ++ rest) (is.0 ∙ line.0)
           ∙ ap (λ (ws : List (List ℕ)). (word ++ words_text ws) ++ rest) is.1
           ∙ ap (λ (bytes : List ℕ). (word ++ bytes) ++ rest) (numerals_text l.0.numbers);
     }
@@ -67,36 +65,29 @@ spoken_text word form text a rest e =
 -- ---- each form
 
 pub version_is : (zs : List ℤ) (v : ℕ) → version_of zs ≡ Some v → (zs ≡ pos v ∷ []) × (1 ≤ v) × (v ≤ 2)
-version_is [] v e = absurd cc
 version_is (z ∷ []) v e = let is = from_to_is 1 2 z v e in (ap (λ (y : ℤ). y ∷ []) is.0, is.1, is.2)
-version_is (y ∷ z ∷ zs) v e = absurd cc
+version_is zs v e = absurd cc
 
 counts_parts : (a b c : Option ℕ) (n : Counts) → counts_with a b c ≡ Some n → (a ≡ Some n.nodes) × (b ≡ Some n.segs) × (c ≡ Some n.lines)
-counts_parts None b c n e = absurd cc
-counts_parts (Some x) None c n e = absurd cc
-counts_parts (Some x) (Some y) None n e = absurd cc
 counts_parts (Some x) (Some y) (Some z) n e =
     let is : record { nodes = x; segs = y; lines = z } ≡ n = some_is (record { nodes = x; segs = y; lines = z }) n e in
     (ap (λ (m : Counts). some m.nodes) is, ap (λ (m : Counts). some m.segs) is, ap (λ (m : Counts). some m.lines) is)
+counts_parts a b c n e = absurd cc
 
 pub counts_are : (zs : List ℤ) (n : Counts) → counts_of zs ≡ Some n → (zs ≡ pos n.nodes ∷ pos n.segs ∷ pos n.lines ∷ []) × (n.nodes ≤ most_nodes) × (n.segs ≤ most_segs) × (n.lines ≤ most_lines)
-counts_are [] n e = absurd cc
-counts_are (x ∷ []) n e = absurd cc
-counts_are (x ∷ y ∷ []) n e = absurd cc
 counts_are (x ∷ y ∷ z ∷ []) n e =
     let p = counts_parts (natural_within most_nodes x) (natural_within most_segs y) (natural_within most_lines z) n e in
     let a = within_is most_nodes x n.nodes p.0 in
     let b = within_is most_segs y n.segs p.1 in
     let c = within_is most_lines z n.lines p.2 in
     (ap (λ (u : ℤ). u ∷ y ∷ z ∷ []) a.0 ∙ ap (λ (u : ℤ). pos n.nodes ∷ u ∷ z ∷ []) b.0 ∙ ap (λ (u : ℤ). pos n.nodes ∷ pos n.segs ∷ u ∷ []) c.0, a.1, b.1, c.1)
-counts_are (x ∷ y ∷ z ∷ w ∷ zs) n e = absurd cc
+counts_are zs n e = absurd cc
 
 pair_parts : (a b : Option ℕ) (p : LineId × ℕ) → pair_with a b ≡ Some p → (a ≡ Some p.0.0) × (b ≡ Some p.1)
-pair_parts None b p e = absurd cc
-pair_parts (Some x) None p e = absurd cc
 pair_parts (Some x) (Some y) p e =
     let is : (line_id x, y) ≡ p = some_is (line_id x, y) p e in
     (ap (λ (q : LineId × ℕ). some q.0.0) is, ap (λ (q : LineId × ℕ). some q.1) is)
+pair_parts a b p e = absurd cc
 
 pairs_are : (least : ℕ) (zs : List ℤ) (ps : List (LineId × ℕ)) → pairs_from least zs ≡ Some ps → (zs ≡ pair_numbers ps) × ArePairs least ps
 pairs_are least [] ps e = subst (λ (qs : List (LineId × ℕ)). ([] ≡ pair_numbers qs) × ArePairs least qs) (some_is [] ps e) (refl, tt)
@@ -164,6 +155,5 @@ order_of_is s (n ∷ zs) ls e = by (is_number s n) refl e
     by false this e = absurd cc
 
 pub cost_is : (zs : List ℤ) (k : ℕ) → cost_of zs ≡ Some k → (zs ≡ pos k ∷ []) × (k ≤ most_cost)
-cost_is [] k e = absurd cc
 cost_is (z ∷ []) k e = let is = within_is most_cost z k e in (ap (λ (y : ℤ). y ∷ []) is.0, is.1)
-cost_is (y ∷ z ∷ zs) k e = absurd cc
+cost_is zs k e = absurd cc

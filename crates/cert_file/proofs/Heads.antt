@@ -1,19 +1,18 @@
 -- What stands before the proof, section by section.
-use Rattle.std.proofs.Common.{◌≡◌, ℕ, zero, suc, ◌+◌, ◌-◌, ◌<◌, ◌≤◌, ℤ, pos, List, [], ◌∷◌, ◌++◌, codes, length, Option, Some, None, option_map, Result, Ok, Err, refl, ap, subst, sym, ◌∙◌, append_assoc, length-append, arith}
+use Rattle.std.proofs.Common.{◌≡◌, ℕ, zero, suc, ◌+◌, ◌-◌, ◌≤◌, ℤ, pos, List, [], ◌∷◌, ◌++◌, codes, length, Option, Some, None, Result, Ok, Err, refl, ap, sym, ◌∙◌, arith}
+use Rattle.std.proofs.lemmas.List.{append-nil}
 use Rattle.map_base.specs.declared.ids.LineId.{LineId}
 use Rattle.octi_grid.specs.Walks.{PlainWalk}
 use Rattle.decimal_text.specs.Lines.{front, numbers_text}
-use Rattle.decimal_text.specs.Reading.{reading}
+use Rattle.decimal_text.specs.Reading.{reading, go_on}
 use Rattle.decimal_text.specs.Readers.{left_of, IsStopWithin}
 use Rattle.decimal_text.specs.declared.fault.Stop.{Stop}
 use Rattle.decimal_text.specs.declared.fault.Stop.TheVariants as stop
-use Rattle.decimal_text.proofs.LineLemmas.{changed, front_map, front_shorter, front_empty}
+use Rattle.decimal_text.proofs.LineLemmas.{front_map, front_shorter, front_empty}
 use Rattle.decimal_text.proofs.Steps.{goes_on, stops, reading_nothing, reading_line, reading_after, then_read}
 use Rattle.decimal_text.proofs.Stops.{StopsIn}
-use Rattle.decimal_text.specs.Reading.{go_on}
 use Rattle.cert_file.specs.declared.counts.Counts.{Counts}
 use Rattle.cert_file.specs.Forms.{spoken_front, version_of, counts_of, cost_of, version_in, counts_in, cost_in}
-use Rattle.cert_file.specs.Text as texts
 use Rattle.cert_file.specs.Text.{version_text, counts_text, importance_text, walks_text, orders_text, cost_text}
 use Rattle.cert_file.specs.Reading.{Due, Version, AllCounts, Cost, after, importance_due, walks_due, orders_due, rest_due}
 use Rattle.cert_file.specs.Readers.{AreImportanceOf, AreWalksOf, AreOrdersOf, IsBodyOf, IsHeadOf, IsVersion}
@@ -67,9 +66,7 @@ body_read v segs ps ws os k text one two three rest pairs walks orders there =
       orders_each = orders.counted;
       each_order = orders.range;
       small = is.1;
-      front =
-          pairs.front
-          ∙ ap (λ (bytes : List ℕ). importance_text ps ++ bytes) (walks.front
+      front = pairs.front ∙ ap (λ (bytes : List ℕ). importance_text ps ++ bytes) (walks.front
           ∙ ap (λ (bytes : List ℕ). walks_text 0 ws ++ bytes) (orders.front ∙ ap (λ (bytes : List ℕ). orders_text 0 os ++ bytes) line));
     }
 
@@ -86,10 +83,6 @@ version_goes_on text v rest there =
 pub version_range : (text : List ℕ) (v : ℕ) (rest : List ℕ) → spoken_front (codes "octimap") version_of text ≡ Some (v, rest) → IsVersion v
 version_range text v rest there = let s = spoken_text (codes "octimap") version_of text v rest there in let is = version_is s.numbers v s.says in (is.1, is.2)
 
-append_none : (xs : List Due) → xs ++ [] ≡ xs
-append_none [] = refl
-append_none (x ∷ xs) = ap (λ (ys : List Due). x ∷ ys) (append_none xs)
-
 pub counts_stop : (v : ℕ) (text : List ℕ) → spoken_front (codes "graph") counts_of text ≡ None → reading after (AllCounts v ∷ []) text ≡ Err text
 counts_stop v text none =
     stops after (λ (n : Counts). rest_due v n.segs) counts_in (AllCounts v) [] text (front_map (λ (n : Counts). rest_due v n.segs) counts_in text) (spoken_is (codes "graph") counts_of text ∙ none)
@@ -97,7 +90,7 @@ counts_stop v text none =
 pub counts_go_on : (v : ℕ) (text : List ℕ) (n : Counts) (rest : List ℕ) → spoken_front (codes "graph") counts_of text ≡ Some (n, rest) → reading after (AllCounts v ∷ []) text ≡ reading after (rest_due v n.segs) rest
 counts_go_on v text n rest there =
     goes_on after (λ (m : Counts). rest_due v m.segs) counts_in (AllCounts v) [] text n rest (front_map (λ (m : Counts). rest_due v m.segs) counts_in text) (spoken_is (codes "graph") counts_of text ∙ there)
-    ∙ ap (λ (due : List Due). reading after due rest) (append_none (rest_due v n.segs))
+    ∙ ap (λ (due : List Due). reading after due rest) (append-nil (rest_due v n.segs))
 
 pub head_read : (v : ℕ) (n : Counts) (ps : List (LineId × ℕ)) (ws : List PlainWalk) (os : List (List LineId)) (k : ℕ) (text one two rest : List ℕ)
     → spoken_front (codes "octimap") version_of text ≡ Some (v, one) → spoken_front (codes "graph") counts_of one ≡ Some (n, two) → IsBodyOf v n.segs ps ws os k two rest → IsHeadOf n ps ws os k text rest

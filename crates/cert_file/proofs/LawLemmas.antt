@@ -1,7 +1,8 @@
 -- The text of a certificate in range is read as a whole, and is that of no other.
-use Rattle.std.proofs.Common.{◌≡◌, ℕ, zero, suc, ◌+◌, ◌-◌, ◌<◌, ◌≤◌, ℤ, pos, List, [], ◌∷◌, ◌++◌, codes, length, Option, Some, Result, Ok, Err, refl, ap, subst, sym, ◌∙◌, append_assoc, length-append, arith}
+use Rattle.std.proofs.Common.{◌≡◌, ℕ, suc, ◌+◌, ◌-◌, ◌≤◌, pos, List, [], ◌∷◌, ◌++◌, codes, length, Option, Some, Result, Ok, Err, refl, ap, sym, ◌∙◌, append_assoc, length-append, arith}
 use Rattle.std.specs.List.{AllByRecursion}
 use Rattle.std.proofs.lemmas.List.{append-nil}
+use Rattle.std.proofs.lemmas.Option.{same_Some}
 use Rattle.map_base.specs.declared.ids.LineId.{LineId}
 use Rattle.octi_grid.specs.Walks.{PlainWalk, IsWalk}
 use Rattle.order_proof.specs.Plain.{PlainProof}
@@ -9,17 +10,17 @@ use Rattle.order_proof.specs.Text.{proof_text}
 use Rattle.order_proof.specs.Reading.{proof_end}
 use Rattle.order_proof.proofs.TextAgain.{end_again}
 use Rattle.order_proof.proofs.OneSpelling.{proof_same}
-use Rattle.decimal_text.specs.Lines.{front, numbers_text}
+use Rattle.decimal_text.specs.Lines.{front}
 use Rattle.decimal_text.specs.Reading.{reading}
 use Rattle.decimal_text.proofs.LineLemmas.{front_map, IsWord, AreNumbers}
 use Rattle.decimal_text.proofs.Steps.{goes_on, reading_nothing}
 use Rattle.cert_file.specs.declared.counts.Counts.{Counts}
 use Rattle.cert_file.specs.Plain.{PlainCertificate}
-use Rattle.cert_file.specs.Forms.{most_id, most_nodes, most_segs, most_lines, most_importance, most_cost, spoken_front, version_of, counts_of, importance_of, walk_in, order_of, cost_of, importance_in, orders_in}
+use Rattle.cert_file.specs.Forms.{most_id, most_nodes, most_segs, most_lines, most_cost, spoken_front, version_of, counts_of, importance_of, walk_in, order_of, cost_of, orders_in}
 use Rattle.cert_file.specs.Text as texts
 use Rattle.cert_file.specs.Text.{version_text, counts_text, pair_numbers, importance_text, walk_text, walks_text, line_numbers, order_text, orders_text, cost_text, head_text, certificate_text}
 use Rattle.cert_file.specs.Ranges.{ArePairs, IsOrder, IsInRange}
-use Rattle.cert_file.specs.Reading.{Due, Version, AllCounts, AWalk, AnOrder, Cost, after, importance_due, walks_due, orders_due, rest_due, head_end, whole_end, certificate_end}
+use Rattle.cert_file.specs.Reading.{Due, AWalk, AnOrder, after, importance_due, walks_due, orders_due, head_end, certificate_end}
 use Rattle.cert_file.proofs.Bodies.{importance_goes_on, importance_none}
 use Rattle.cert_file.proofs.Heads.{cost_left, cost_goes_on, version_goes_on, counts_go_on}
 use Rattle.cert_file.proofs.Wholes.{head_then, ends_whole}
@@ -111,10 +112,8 @@ apart c rest =
     let o = orders_text 0 c.orders in
     let k = cost_text c.cost in
     append_assoc (version_text c.importance) (b ++ (i ++ (w ++ (o ++ k)))) rest
-    ∙ ap (λ (bytes : List ℕ). version_text c.importance ++ bytes)
-    (append_assoc b (i ++ (w ++ (o ++ k))) rest
-    ∙ ap (λ (bytes : List ℕ). b ++ bytes)
-    (append_assoc i (w ++ (o ++ k)) rest
+    ∙ ap (λ (bytes : List ℕ). version_text c.importance ++ bytes) (append_assoc b (i ++ (w ++ (o ++ k))) rest
+    ∙ ap (λ (bytes : List ℕ). b ++ bytes) (append_assoc i (w ++ (o ++ k)) rest
     ∙ ap (λ (bytes : List ℕ). i ++ bytes) (append_assoc w (o ++ k) rest ∙ ap (λ (bytes : List ℕ). w ++ bytes) (append_assoc o k rest))))
 
 head_again : (c : PlainCertificate) (rest : List ℕ) → IsInRange c → head_end (head_text c ++ rest) ≡ Ok rest
@@ -155,29 +154,20 @@ none_where_stopped bytes at c stopped range e = ok_no_err (length (certificate_t
 
 -- ---- one spelling
 
-abbrev found : {A : Type 0} → A × List ℕ → Option (A × List ℕ)
-found x = Some x
-
-found_is : {A : Type 0} (x y : A × List ℕ) → found x ≡ found y → x ≡ y
-found_is x y e = cc
-
 -- two things that one reading finds at the front of one text
 same : {A : Type 0} (reading : List ℕ → Option (A × List ℕ)) (a b : A) (x y s t : List ℕ) → reading s ≡ Some (a, x) → reading t ≡ Some (b, y) → s ≡ t → (a ≡ b) × (x ≡ y)
 same {A} reading a b x y s t first second e =
-    let one : (a, x) ≡ (b, y) = found_is (a, x) (b, y) (sym first ∙ ap reading e ∙ second) in
+    let one : (a, x) ≡ (b, y) = same_Some (a, x) (b, y) (sym first ∙ ap reading e ∙ second) in
     (ap (λ (p : A × List ℕ). p.0) one, ap (λ (p : A × List ℕ). p.1) one)
 
 importance_same : (ps qs : List (LineId × ℕ)) (a b : List ℕ) → ArePairs 0 ps → ArePairs 0 qs → texts.version_of ps ≡ texts.version_of qs → importance_text ps ++ a ≡ importance_text qs ++ b → (ps ≡ qs) × (a ≡ b)
 importance_same [] [] a b first second version e = (refl, e)
-importance_same [] (q ∷ qs) a b first second version e = absurd (omega (arith, version))
-importance_same (p ∷ ps) [] a b first second version e = absurd (omega (arith, version))
 importance_same (p ∷ ps) (q ∷ qs) a b first second version e =
     same (spoken_front (codes "importance") importance_of) (p ∷ ps) (q ∷ qs) a b (importance_text (p ∷ ps) ++ a) (importance_text (q ∷ qs) ++ b) (importance_read p ps a first) (importance_read q qs b second) e
+importance_same ps qs a b first second version e = absurd (omega (arith, version))
 
 walks_same : (s : ℕ) (ws vs : List PlainWalk) (a b : List ℕ) → s + length ws ≤ most_segs → length ws ≡ length vs → AllByRecursion IsWalk ws → AllByRecursion IsWalk vs → walks_text s ws ++ a ≡ walks_text s vs ++ b → (ws ≡ vs) × (a ≡ b)
 walks_same s [] [] a b few count first second e = (refl, e)
-walks_same s [] (v ∷ vs) a b few count first second e = absurd (omega arith)
-walks_same s (w ∷ ws) [] a b few count first second e = absurd (omega arith)
 walks_same s (w ∷ ws) (v ∷ vs) a b few count first second e =
     let x = walks_text (suc s) ws ++ a in
     let y = walks_text (suc s) vs ++ b in
@@ -185,11 +175,10 @@ walks_same s (w ∷ ws) (v ∷ vs) a b few count first second e =
     (sym (append_assoc (walk_text s w) (walks_text (suc s) ws) a) ∙ e ∙ append_assoc (walk_text s v) (walks_text (suc s) vs) b) in
     let later = walks_same (suc s) ws vs a b (omega arith) (omega arith) first.1 second.1 head.1 in
     (ap (λ (z : PlainWalk). z ∷ ws) head.0 ∙ ap (λ (zs : List PlainWalk). v ∷ zs) later.0, later.1)
+walks_same s ws vs a b few count first second e = absurd (omega arith)
 
 orders_same : (s : ℕ) (os us : List (List LineId)) (a b : List ℕ) → s + length os ≤ most_segs → length os ≡ length us → AllByRecursion IsOrder os → AllByRecursion IsOrder us → orders_text s os ++ a ≡ orders_text s us ++ b → (os ≡ us) × (a ≡ b)
 orders_same s [] [] a b few count first second e = (refl, e)
-orders_same s [] (u ∷ us) a b few count first second e = absurd (omega arith)
-orders_same s (o ∷ os) [] a b few count first second e = absurd (omega arith)
 orders_same s (o ∷ os) (u ∷ us) a b few count first second e =
     let x = orders_text (suc s) os ++ a in
     let y = orders_text (suc s) us ++ b in
@@ -197,6 +186,7 @@ orders_same s (o ∷ os) (u ∷ us) a b few count first second e =
     (sym (append_assoc (order_text s o) (orders_text (suc s) os) a) ∙ e ∙ append_assoc (order_text s u) (orders_text (suc s) us) b) in
     let later = orders_same (suc s) os us a b (omega arith) (omega arith) first.1 second.1 head.1 in
     (ap (λ (z : List LineId). z ∷ os) head.0 ∙ ap (λ (zs : List (List LineId)). u ∷ zs) later.0, later.1)
+orders_same s os us a b few count first second e = absurd (omega arith)
 
 abbrev made : ℕ → ℕ → ℕ → List (LineId × ℕ) → List PlainWalk → List (List LineId) → ℕ → PlainProof → PlainCertificate
 made n s l ps ws os k p = record { nodes = n; segs = s; lines = l; importance = ps; walks = ws; orders = os; cost = k; proof = p }

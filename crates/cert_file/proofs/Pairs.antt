@@ -1,10 +1,8 @@
 -- Lines with their importance, taken one pair at a time.
 use Rattle.std.proofs.Common.{◌≡◌, ℕ, suc, ◌+◌, ◌^◌, ◌<◌, ◌≤◌, ℤ, pos, List, [], ◌∷◌, ◌++◌, length, get_or, drop, Option, Some, None, option_map, refl, ap, subst, sym, ◌∙◌, append_assoc, arith}
-use Rattle.std.proofs.lemmas.List.{append-nil, drop_more}
 use Rattle.std.specs.Option.{option_and_then}
 use Rattle.map_base.specs.declared.ids.LineId.{LineId}
-use Rattle.decimal_text.specs.Numbers.{natural_within}
-use Rattle.cert_file.specs.Forms.{most_id, line_id, pair_of, pairs_from, lines_in}
+use Rattle.cert_file.specs.Forms.{pair_of, pairs_from}
 
 abbrev pub Pair : Type 0
 Pair = LineId × ℕ

@@ -1,15 +1,12 @@
 -- Runs of steps, and the words that write them.
-use Rattle.std.proofs.Common.{◌≡◌, ℕ, zero, suc, ◌+◌, ◌<◌, ◌≤◌, ℤ, pos, Bool, true, false, cond, not, ◌&&◌, eqb, ltb, List, [], ◌∷◌, ◌++◌, length, replicate, Option, Some, None, option_map, refl, ap, subst, sym, ◌∙◌, append_assoc, arith}
-use Rattle.std.specs.Option.{option_and_then}
-use Rattle.std.proofs.lemmas.Bool.{eq-eqb, eqb-true}
-use Rattle.std.proofs.lemmas.List.{append-nil}
+use Rattle.std.proofs.Common.{◌≡◌, ℕ, zero, suc, ◌+◌, ◌<◌, Bool, true, cond, ◌&&◌, eqb, ltb, List, [], ◌∷◌, ◌++◌, replicate, refl, ap, ◌∙◌, arith}
+use Rattle.std.proofs.lemmas.Bool.{and_parts, eq-eqb, not-true}
 use Rattle.octi_grid.specs.declared.dir.Dir.{Dir}
 use Rattle.octi_grid.specs.declared.walk.Run.{Run}
 use Rattle.octi_grid.specs.Ways.{number_of}
 use Rattle.octi_grid.specs.Runs.{steps_of, are_runs, turns_next}
-use Rattle.octi_grid.proofs.RunLemmas.{first_count, rest_are_runs, same_direction}
-use Rattle.decimal_text.specs.Lines.{words_behind}
-use Rattle.cert_file.specs.RunWords.{with_step, runs_of, run_of, run_before, runs_in, runs_behind}
+use Rattle.octi_grid.proofs.RunLemmas.{first_count, rest_are_runs}
+use Rattle.cert_file.specs.RunWords.{with_step, runs_of}
 
 -- ---- steps and runs
 
@@ -24,30 +21,19 @@ same_way d n rs = ap (λ (b : Bool). cond b (run d (suc n) ∷ rs) (run d 1 ∷ 
 abbrev TurnsTo : Dir → List Run → Type 0
 TurnsTo d rs = turns_next d rs ≡ true
 
-not_true : (b : Bool) → not b ≡ true → b ≡ false
-not_true true e = absurd cc
-not_true false e = refl
-
 other_way : (d : Dir) (rs : List Run) → TurnsTo d rs → with_step d rs ≡ run d 1 ∷ rs
 other_way d [] turns = refl
-other_way d (r ∷ rs) turns = ap (λ (b : Bool). cond b (run r.dir (suc r.count) ∷ rs) (run d 1 ∷ r ∷ rs)) (not_true (eqb (number_of d) (number_of r.dir)) turns)
+other_way d (r ∷ rs) turns = ap (λ (b : Bool). cond b (run r.dir (suc r.count) ∷ rs) (run d 1 ∷ r ∷ rs)) (not-true (eqb (number_of d) (number_of r.dir)) turns)
 
 grouped : (d : Dir) (n : ℕ) (ds : List Dir) (rs : List Run) → runs_of ds ≡ rs → TurnsTo d rs → runs_of (replicate (suc n) d ++ ds) ≡ run d (suc n) ∷ rs
 grouped d zero ds rs are turns = ap (with_step d) are ∙ other_way d rs turns
 grouped d (suc n) ds rs are turns = ap (with_step d) (grouped d n ds rs are turns) ∙ same_way d (suc n) rs
 
-and_left : (a b : Bool) → (a && b) ≡ true → a ≡ true
-and_left true b e = refl
-and_left false b e = absurd cc
-
-and_right : (a b : Bool) → (a && b) ≡ true → b ≡ true
-and_right true b e = e
-and_right false b e = absurd cc
-
 -- the runs of steps are the runs that the steps are kept as
 pub runs_again : (rs : List Run) → are_runs rs ≡ true → runs_of (steps_of rs) ≡ rs
 runs_again [] are = refl
-runs_again (r ∷ rs) are = by r.count r.dir (first_count r rs are) (and_right (ltb 0 r.count) (turns_next r.dir rs) (and_left (ltb 0 r.count && turns_next r.dir rs) (are_runs rs) are)) (runs_again rs (rest_are_runs r rs are))
+runs_again (r ∷ rs) are = by r.count r.dir (first_count r rs are) (and_parts (ltb 0 r.count) (turns_next r.dir rs)
+    (and_parts (ltb 0 r.count && turns_next r.dir rs) (are_runs rs) are).0).1 (runs_again rs (rest_are_runs r rs are))
   where
     by : (n : ℕ) (d : Dir) → 0 < n → TurnsTo d rs → runs_of (steps_of rs) ≡ rs → runs_of (replicate n d ++ steps_of rs) ≡ run d n ∷ rs
     by zero d some turns later = absurd (omega arith)

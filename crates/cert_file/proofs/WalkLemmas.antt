@@ -1,10 +1,10 @@
 -- What the line of a walk says, and that it is the line which is written of it.
-use Rattle.std.proofs.Common.{◌≡◌, ℕ, suc, ◌<◌, ◌≤◌, ℤ, pos, Bool, true, false, cond, not, ◌&&◌, ltb, List, [], ◌∷◌, ◌++◌, codes, length, take, drop, Option, Some, None, option_map, refl, ap, subst, sym, ◌∙◌, arith}
+use Rattle.std.proofs.Common.{◌≡◌, ℕ, ℤ, pos, Bool, true, false, cond, ◌&&◌, ltb, List, [], ◌∷◌, ◌++◌, codes, length, take, drop, Option, Some, None, refl, ap, subst, sym, ◌∙◌, arith}
 use Rattle.std.specs.Option.{option_and_then}
 use Rattle.std.specs.List.{list_all}
 use Rattle.std.specs.Str.{bytes_eq}
 use Rattle.std.specs.Fmt.{decimal, signed_decimal}
-use Rattle.std.proofs.lemmas.Bool.{ltb-true}
+use Rattle.std.proofs.lemmas.Bool.{and_parts, ltb-true}
 use Rattle.std.proofs.lemmas.List.{take-append-drop}
 use Rattle.std.proofs.lemmas.Slice.Eq.{bytes_eq-Decides}
 use Rattle.octi_grid.specs.declared.dir.Dir.{Dir}
@@ -21,17 +21,11 @@ use Rattle.decimal_text.specs.Lines.{front, words_text}
 use Rattle.decimal_text.proofs.NumberLemmas.{number_is}
 use Rattle.decimal_text.proofs.RangeLemmas.{from_to_is}
 use Rattle.decimal_text.proofs.LineLemmas.{front_text}
-use Rattle.cert_file.specs.RunWords.{runs_of, dir_text, run_word, run_words, dir_of, most_steps, run_with, name_end, run_of, run_before, runs_in}
+use Rattle.cert_file.specs.RunWords.{dir_text, run_word, run_words, dir_of, most_steps, run_with, name_end, run_of, run_before, runs_in}
 use Rattle.cert_file.specs.Forms.{is_number, walk_with, walk_of, walk_in}
 use Rattle.cert_file.specs.Text.{walk_words, walk_text}
 use Rattle.cert_file.proofs.Runs.{runs_again}
-use Rattle.cert_file.proofs.FormLemmas.{and_then_is, number_is_this}
-
-abbrev some : {A : Type 0} → A → Option A
-some x = Some x
-
-some_is : {A : Type 0} (x y : A) → some x ≡ some y → x ≡ y
-some_is x y e = cc
+use Rattle.cert_file.proofs.FormLemmas.{and_then_is, number_is_this, some, some_is}
 
 -- ---- runs
 
@@ -49,11 +43,10 @@ dir_is text d = this_dir text dir.N _ d (this_dir text dir.NE _ d (this_dir text
     none = None
 
 run_parts : (a : Option Dir) (b : Option ℕ) (r : Run) → run_with a b ≡ Some r → (a ≡ Some r.dir) × (b ≡ Some r.count)
-run_parts None b r e = absurd cc
-run_parts (Some d) None r e = absurd cc
 run_parts (Some d) (Some n) r e =
     let is : record { dir = d; count = n } ≡ r = some_is (record { dir = d; count = n }) r e in
     (ap (λ (q : Run). some q.dir) is, ap (λ (q : Run). some q.count) is)
+run_parts a b r e = absurd cc
 
 -- a word that writes a run is written of it
 run_is : (word : List ℕ) (r : Run) → run_of word ≡ Some r → word ≡ run_word r
@@ -66,9 +59,8 @@ run_is word r e =
     sym (take-append-drop k word) ∙ ap (λ (bytes : List ℕ). bytes ++ drop k word) (dir_is (take k word) r.dir p.0) ∙ ap (λ (bytes : List ℕ). dir_text r.dir ++ bytes) digits
 
 before_is : (o : Option Run) (more : Option (List Run)) (rs : List Run) → run_before o more ≡ Some rs → (r : Run) × (rest : List Run) × (o ≡ Some r) × (more ≡ Some rest) × (r ∷ rest ≡ rs)
-before_is None more rs e = absurd cc
-before_is (Some r) None rs e = absurd cc
 before_is (Some r) (Some rest) rs e = (r, rest, refl, refl, some_is (r ∷ rest) rs e)
+before_is o more rs e = absurd cc
 
 runs_are : (ws : List (List ℕ)) (rs : List Run) → runs_in ws ≡ Some rs → ws ≡ run_words rs
 runs_are [] rs e = ap run_words (some_is [] rs e)
@@ -77,10 +69,6 @@ runs_are (w ∷ ws) rs e =
     ap (λ (x : List ℕ). x ∷ ws) (run_is w p.0 p.2) ∙ ap (λ (xs : List (List ℕ)). run_word p.0 ∷ xs) (runs_are ws p.1 p.3) ∙ ap run_words p.4
 
 -- ---- walks
-
-and_parts : (a b : Bool) → (a && b) ≡ true → (a ≡ true) × (b ≡ true)
-and_parts true b e = (refl, e)
-and_parts false b e = absurd cc
 
 -- a walk of runs that fit is a walk, and its steps are these runs
 record IsFitting (start : GridPoint) (rs : List Run) (w : PlainWalk) : Type 0 where
@@ -117,20 +105,14 @@ record IsAll (s : ℕ) (n x y : Option ℤ) (runs : Option (List Run)) (w : Plai
   walk_is : walk_by (record { x = z_x; y = z_y }) rs ≡ Some w
 
 all_there : (s : ℕ) (n x y : Option ℤ) (runs : Option (List Run)) (w : PlainWalk) → walk_with s n x y runs ≡ Some w → IsAll s n x y runs w
-all_there s None x y runs w e = absurd cc
-all_there s (Some n) None y runs w e = absurd cc
-all_there s (Some n) (Some x) None runs w e = absurd cc
-all_there s (Some n) (Some x) (Some y) None w e = absurd cc
 all_there s (Some n) (Some x) (Some y) (Some rs) w e = by (is_number s n) refl e
   where
     by : (b : Bool) → is_number s n ≡ b → cond b (walk_by (record { x = x; y = y }) rs) None ≡ some w → IsAll s (Some n) (Some x) (Some y) (Some rs) w
     by true this e = record { z_x = x; z_y = y; rs = rs; n_is = ap some (number_is_this s n this); x_is = refl; y_is = refl; runs_is = refl; walk_is = e }
     by false this e = absurd cc
+all_there s n x y runs w e = absurd cc
 
 words_are : (s : ℕ) (ws : List (List ℕ)) (w : PlainWalk) → walk_of s ws ≡ Some w → (ws ≡ walk_words s w) × IsWalk w
-words_are s [] w e = absurd cc
-words_are s (n ∷ []) w e = absurd cc
-words_are s (n ∷ x ∷ []) w e = absurd cc
 words_are s (n ∷ x ∷ y ∷ runs) w e =
     let a = all_there s (number_of n) (number_of x) (number_of y) (runs_in runs) w e in
     let start : GridPoint = record { x = a.z_x; y = a.z_y } in
@@ -145,6 +127,7 @@ words_are s (n ∷ x ∷ y ∷ runs) w e =
           ∙ ap (walk_words s) f.walk_is,
       subst IsWalk f.walk_is f.is_walk,
     )
+words_are s ws w e = absurd cc
 
 word_is : (first : List ℕ) (others : List (List ℕ)) (s : ℕ) (w : PlainWalk) → walk_in s (first ∷ others) ≡ Some w → (first ≡ codes "walk") × (walk_of s others ≡ Some w)
 word_is first others s w e = by (bytes_eq first (codes "walk")) refl e
@@ -159,8 +142,7 @@ walk_line s text w rest e =
     let l = front_text (walk_in s) text w rest e in
     let word = word_is l.first l.others s w l.says in
     let are = words_are s l.others w word.1 in (
-      l.text_is
-          ∙ ap (λ (bytes : List ℕ). (bytes ++ words_text l.others) ++ rest) word.0
+      l.text_is ∙ ap (λ (bytes : List ℕ). (bytes ++ words_text l.others) ++ rest) word.0
           ∙ ap (λ (ws : List (List ℕ)). (codes "walk" ++ words_text ws) ++ rest) are.0,
       are.1,
     )

@@ -1,29 +1,23 @@
 -- A certificate's head and its proof.
-use Rattle.std.proofs.Common.{◌≡◌, ℕ, ◌+◌, ◌-◌, ◌<◌, ◌≤◌, Bool, true, false, cond, eqb, List, [], ◌∷◌, ◌++◌, length, take, Result, Ok, Err, refl, ap, subst, sym, ◌∙◌, append_assoc, length-append, arith}
+use Rattle.std.proofs.Common.{◌≡◌, ℕ, ◌+◌, ◌-◌, Bool, cond, List, ◌++◌, length, Result, Ok, Err, ap, sym, ◌∙◌, append_assoc, arith}
 use Rattle.std.proofs.lemmas.Bool.{eq-eqb, ne_eqb}
-use Rattle.std.proofs.lemmas.List.{take_all}
 use Rattle.map_base.specs.declared.ids.LineId.{LineId}
 use Rattle.octi_grid.specs.Walks.{PlainWalk}
 use Rattle.order_proof.specs.Plain.{PlainProof}
 use Rattle.order_proof.specs.Text.{proof_text}
-use Rattle.order_proof.specs.Reading as proofs
 use Rattle.order_proof.specs.Reading.{proof_end}
-use Rattle.order_proof.specs.Readers as readers
 use Rattle.cert_file.specs.declared.counts.Counts.{Counts}
-use Rattle.cert_file.specs.Plain.{PlainCertificate}
-use Rattle.cert_file.specs.Text.{version_text, counts_text, importance_text, walks_text, orders_text, cost_text, certificate_text}
+use Rattle.cert_file.specs.Text.{version_text, counts_text, importance_text, walks_text, orders_text, cost_text}
 use Rattle.cert_file.specs.Reading.{proof_place, whole_end, head_end, certificate_end}
 use Rattle.cert_file.specs.Readers.{IsHeadOf, IsWholeProof, IsTextOf, certificate_with}
 
 pub ends_whole : (place used : ℕ) (bytes : List ℕ) → proof_end bytes ≡ Ok used → used ≡ length bytes → proof_place place (length bytes) (proof_end bytes) ≡ Ok (place + length bytes)
-ends_whole place used bytes e all =
-    ap (proof_place place (length bytes)) e
+ends_whole place used bytes e all = ap (proof_place place (length bytes)) e
     ∙ ap (λ (b : Bool). let r : Result ℕ ℕ = cond b (Ok (place + used)) (Err (place + used)) in r) (eq-eqb used (length bytes) all)
     ∙ ap (λ (n : ℕ). let r : Result ℕ ℕ = Ok (place + n) in r) all
 
 pub ends_before : (place used : ℕ) (bytes : List ℕ) → proof_end bytes ≡ Ok used → (used ≡ length bytes → ⊥) → proof_place place (length bytes) (proof_end bytes) ≡ Err (place + used)
-ends_before place used bytes e more =
-    ap (proof_place place (length bytes)) e
+ends_before place used bytes e more = ap (proof_place place (length bytes)) e
     ∙ ap (λ (b : Bool). let r : Result ℕ ℕ = cond b (Ok (place + used)) (Err (place + used)) in r) (ne_eqb used (length bytes) more)
 
 pub stops_at : (place at : ℕ) (bytes : List ℕ) → proof_end bytes ≡ Err at → proof_place place (length bytes) (proof_end bytes) ≡ Err (place + at)
@@ -48,12 +42,9 @@ all_read n ps ws os k p bytes rest head proof =
     let f = cost_text k in
     let t = proof_text p in
     let right : a ++ (b ++ (c ++ (d ++ (e ++ (f ++ t))))) ≡ (a ++ (b ++ (c ++ (d ++ (e ++ f))))) ++ t =
-    ap (λ (bytes : List ℕ). a ++ bytes)
-    (ap (λ (bytes : List ℕ). b ++ bytes)
-    (ap (λ (bytes : List ℕ). c ++ bytes)
+    ap (λ (bytes : List ℕ). a ++ bytes) (ap (λ (bytes : List ℕ). b ++ bytes) (ap (λ (bytes : List ℕ). c ++ bytes)
     (ap (λ (bytes : List ℕ). d ++ bytes) (sym (append_assoc e f t)) ∙ sym (append_assoc d (e ++ f) t))
-    ∙ sym (append_assoc c (d ++ (e ++ f)) t))
-    ∙ sym (append_assoc b (c ++ (d ++ (e ++ f))) t))
+    ∙ sym (append_assoc c (d ++ (e ++ f)) t)) ∙ sym (append_assoc b (c ++ (d ++ (e ++ f))) t))
     ∙ sym (append_assoc a (b ++ (c ++ (d ++ (e ++ f)))) t) in
     record {
       range = record {

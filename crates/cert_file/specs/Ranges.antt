@@ -3,7 +3,7 @@
 use Rattle.std.specs.Prelude.{◌≡◌, ℕ, suc, ◌<◌, ◌≤◌, true, List, [], ◌∷◌, length}
 use Rattle.std.specs.List.{AllByRecursion}
 use Rattle.map_base.specs.declared.ids.LineId.{LineId}
-use Rattle.octi_grid.specs.Walks.{PlainWalk, IsWalk}
+use Rattle.octi_grid.specs.Walks.{IsWalk}
 use Rattle.order_proof.specs.Ranges as proofs
 use Rattle.cert_file.specs.Plain.{PlainCertificate}
 use Rattle.cert_file.specs.Forms.{most_id, most_nodes, most_segs, most_lines, most_importance, most_cost, are_distinct}

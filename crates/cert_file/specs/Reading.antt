@@ -1,5 +1,5 @@
 -- Reading a certificate line by line: what is due next, and the first line that has not the form due.
-use Rattle.std.specs.Prelude.{ℕ, zero, suc, ◌+◌, ◌-◌, ◌==◌, List, [], ◌∷◌, ◌++◌, length, Option, Some, None, option_map, Result, Ok, Err, if◌then◌else◌}
+use Rattle.std.specs.Prelude.{ℕ, zero, suc, ◌+◌, ◌-◌, ◌==◌, List, [], ◌∷◌, ◌++◌, length, Option, option_map, Result, Ok, Err, if◌then◌else◌}
 use Rattle.decimal_text.specs.Reading.{reading}
 use Rattle.order_proof.specs.Reading.{proof_end}
 use Rattle.cert_file.specs.Forms.{version_in, counts_in, importance_in, walk_in, orders_in, cost_in}

@@ -25,23 +25,22 @@ abbrev pub made_of : {A B : Type 0} → (A → B) → Result A CheckFault → Re
 made_of f (Ok a) = Ok (f a)
 made_of f (Err stop) = Err stop
 
-unless_made : {A B : Type 0} (f : A → B) (o : Option CheckItem) (next : Result A CheckFault)
-    → unless_refused o (made_of f next) ≡ made_of f (unless_refused o next)
-unless_made f None next = refl
-unless_made f (Some i) next = refl
+-- an item stops both alike
+unless_made : {A B : Type 0} (f : A → B) (o : Option CheckItem) {before : Result B CheckFault}
+    (next : Result A CheckFault) → before ≡ made_of f next → unless_refused o before ≡ made_of f (unless_refused o next)
+unless_made f None next is = is
+unless_made f (Some i) next is = refl
 
 orders_made : {A B : Type 0} (f : A → B) (claim : Claim) (c : PlainCertificate) (given : A)
-    (o : Result ProblemParts Limit)
-    → accepted_orders claim c (f given) o ≡ made_of f (accepted_orders claim c given o)
+    (o : Result ProblemParts Limit) → accepted_orders claim c (f given) o ≡ made_of f (accepted_orders claim c given o)
 orders_made f claim c given (Err limit) = refl
 orders_made {A} f claim c given (Ok p) =
     let done : Result A CheckFault = Ok given in
-    ap (unless_refused (cost_item p c.orders c.cost)) (unless_made f (proof_item claim p c.orders c.proof) done)
-    ∙ unless_made f (cost_item p c.orders c.cost) (unless_refused (proof_item claim p c.orders c.proof) done)
+    let proof = proof_item claim p c.orders c.proof in
+    unless_made f (cost_item p c.orders c.cost) (unless_refused proof done) (unless_made f proof done refl)
 
 module _ {A B : Type 0} (f : A → B) (importance : List ℕ) (choices : Choices) (claim : Claim) (graph : GraphParts) where
-  items_made : (c : PlainCertificate) (given : A)
-      → accepted_items importance choices claim graph c (f given)
+  items_made : (c : PlainCertificate) (given : A) → accepted_items importance choices claim graph c (f given)
       ≡ made_of f (accepted_items importance choices claim graph c given)
   items_made c given =
       let counts = graph_item importance graph c in
@@ -49,15 +48,10 @@ module _ {A B : Type 0} (f : A → B) (importance : List ℕ) (choices : Choices
       let walks = walk_item graph c in
       let orders = order_item graph c in
       let last : Result A CheckFault = accepted_orders claim c given (problem_within importance choices graph) in
-      ap (λ (r : Result B CheckFault). unless_refused counts
-      (unless_refused pairs (unless_refused walks (unless_refused orders r))))
-      (orders_made f claim c given (problem_within importance choices graph))
-      ∙ ap (λ (r : Result B CheckFault). unless_refused counts (unless_refused pairs (unless_refused walks r)))
-      (unless_made f orders last)
-      ∙ ap (λ (r : Result B CheckFault). unless_refused counts (unless_refused pairs r))
-      (unless_made f walks (unless_refused orders last))
-      ∙ ap (unless_refused counts) (unless_made f pairs (unless_refused walks (unless_refused orders last)))
-      ∙ unless_made f counts (unless_refused pairs (unless_refused walks (unless_refused orders last)))
+      unless_made f counts (unless_refused pairs (unless_refused walks (unless_refused orders last)))
+      (unless_made f pairs (unless_refused walks (unless_refused orders last))
+      (unless_made f walks (unless_refused orders last)
+      (unless_made f orders last (orders_made f claim c given (problem_within importance choices graph)))))
 
   module _ (gives : PlainCertificate → A) where
     -- what is made of what a certificate gives is given where the certificate is accepted
@@ -77,13 +71,11 @@ module _ {A B : Type 0} (f : A → B) (importance : List ℕ) (choices : Choices
         → HasCause (accepted_text gives importance choices claim graph read) e
         → HasCause (accepted_text (λ c. f (gives c)) importance choices claim graph read) e
     refused_made read fault.NoMemory is = tt
-    refused_made read (fault.Refuted i) is = text_made read ∙ ap (made_of f) is
-    refused_made read (fault.Limit limit) is = text_made read ∙ ap (made_of f) is
+    refused_made read e is = text_made read ∙ ap (made_of f) is
 
 -- what is shown of a certificate is shown of its text
 pub accepted_by : (importance : List ℕ) (choices : Choices) (claim : Claim) (graph : GraphParts) (c : PlainCertificate)
-    (bytes : List ℕ)
-    (result : Result CheckedMap CheckFault) → IsTextOf c bytes
+    (bytes : List ℕ) (result : Result CheckedMap CheckFault) → IsTextOf c bytes
     → IfOk result (λ checked. ShowsAccepted importance choices claim graph c (accepted_map checked))
     → IfOk result (λ checked. IsAcceptedOn importance choices claim graph bytes (accepted_map checked))
 accepted_by importance choices claim graph c bytes

@@ -1,5 +1,5 @@
 -- The proof by the solved parts of an untangled problem is accepted.
-use Rattle.std.proofs.Common.{◌≡◌, ◌∙◌, ap, sym, subst, refl, ℕ, ◌+◌, ◌==◌, Bool, true, cond, List, [], ◌∷◌, map, sum_by, arith, eq-eqb, Option, Some, None}
+use Rattle.std.proofs.Common.{◌≡◌, ◌∙◌, ap, sym, subst, refl, ℕ, ◌+◌, ◌==◌, Bool, true, cond, List, [], ◌∷◌, map, arith, eq-eqb, Option, Some, None}
 use Rattle.std.specs.List.{AllByRecursion}
 use Rattle.std.proofs.lemmas.Bool.{and_from}
 use Rattle.std.proofs.lemmas.List.Sums.{sum_by-cons}
@@ -33,17 +33,14 @@ part_accepted : (plan : SearchPlan) (p : ProblemParts) (k : ℕ) (s : SolvedPart
     → part_refusal p.segs p.terms k s.segs (proof_part s) ≡ None
 part_accepted plan p k s shown =
     ap (λ (b : Bool). cond b (tree_refusal k (failing (question p.segs s.segs (part_terms p.terms s.segs) s.target) s.tree)) (Some (item.Part k [])))
-    (same_segments s.segs)
-    ∙ ap (tree_refusal k) shown.accepted
+    (same_segments s.segs) ∙ ap (tree_refusal k) shown.accepted
 
 parts_accepted : (plan : SearchPlan) (p : ProblemParts) (k : ℕ) (done : List SolvedPart)
-    → AllByRecursion (IsShown plan p) done
-    → first_part p.segs p.terms k (map segs_of done) (map proof_part done) ≡ None
+    → AllByRecursion (IsShown plan p) done → first_part p.segs p.terms k (map segs_of done) (map proof_part done) ≡ None
 parts_accepted plan p k [] shown = refl
 parts_accepted plan p k (s ∷ done) shown =
     ap (λ (o : Option ProofItem). first_item o (first_part p.segs p.terms (k + 1) (map segs_of done) (map proof_part done)))
-    (part_accepted plan p k s shown.0)
-    ∙ parts_accepted plan p (k + 1) done shown.1
+    (part_accepted plan p k s shown.0) ∙ parts_accepted plan p (k + 1) done shown.1
 
 pub targets_are : (parts : List SolvedPart) → targets (map proof_part parts) ≡ target_sum parts
 targets_are [] = refl
@@ -70,8 +67,7 @@ bound_none plan p done is segs shown =
     let parts : first_part last.segs last.terms 0 (parts_in last) proofs ≡ None =
     subst (λ (q : ProblemParts). first_part q.segs q.terms 0 (parts_in q) proofs ≡ None) (last_is p is) here in
     ap (λ (o : Option ProofItem). first_item o (first_part last.segs last.terms 0 (parts_in last) proofs))
-    (ap rule_refusal (none_refused 0 p rules (rules_apply p is)))
-    ∙ parts
+    (ap rule_refusal (none_refused 0 p rules (rules_apply p is))) ∙ parts
 
 -- nor is the total, where orders cost what the targets sum to
 pub verdict_none : (plan : SearchPlan) (p : ProblemParts) (orders : List (List LineId)) (done : List SolvedPart)

@@ -28,8 +28,7 @@ routed_alike importance some other graph (Err stop) weights = refl
 
 solved_alike : (some other : Choices) (method : MethodChoices) (o : Result Drawn MakeFault)
     → some.budget ≡ other.budget → solved_of some method o ≡ solved_of other method o
-solved_alike some other method (Ok drawn) budget =
-    ap (λ (b : ℕ). solved_with method.moves drawn
+solved_alike some other method (Ok drawn) budget = ap (λ (b : ℕ). solved_with method.moves drawn
     (solve_outcome (plan_with method b) (untangled_problem drawn.problem))) budget
 solved_alike some other method (Err stop) budget = refl
 

@@ -2,12 +2,13 @@
 use Rattle.std.proofs.Common.{◌≡◌, ◌∙◌, ap, sym, subst, refl, ℕ, zero, suc, ◌+◌, ◌*◌, ◌<◌, ◌≤◌, ◌==◌, nat_lt, not, Bool, true, false, true≢false, cond, List, [], ◌∷◌, length, map, get_or, arith, ltb-true, ◌⊎◌, inl, inr, All, None, ◌^◌}
 use Rattle.std.specs.List.{AllByRecursion, Contains, IsDistinct, filter, list_any, range_with_len}
 use Rattle.std.specs.List.Sorted.{IsPermutation}
-use Rattle.std.proofs.lemmas.Bool.{and_from, cases_lt, or_cases}
+use Rattle.std.proofs.lemmas.Bool.{and_from, cases_lt}
 use Rattle.std.proofs.lemmas.Bool.Decides.{nat_tests}
 use Rattle.std.proofs.lemmas.List.{get_or_past, length-map}
-use Rattle.std.proofs.lemmas.List.Sums.{sum_by-cons}
+use Rattle.std.proofs.lemmas.List.Sums.{count_by-le-length, length-filter, sum_by-le}
 use Rattle.std.proofs.lemmas.List.Sorted.{length_permutation, All-permutation}
-use Rattle.std.proofs.lemmas.List.Elements.{All-contains, All-from_recursion, All-head, All-tail, recursion_from_All}
+use Rattle.std.proofs.lemmas.List.Elements.{All-contains, All-filter, All-from_recursion, All-weaker, filter_passes, recursion_from_All}
+use Rattle.std.proofs.lemmas.List.Folds.{Any-from_list_any}
 use Rattle.map_base.specs.declared.ids.SegId.{SegId}
 use Rattle.map_base.specs.declared.ids.LineId.{LineId}
 use Rattle.map_base.specs.Settings.{Choices, IsImportance}
@@ -16,7 +17,7 @@ use Rattle.graph_core.specs.Consistent.{AreRising, IsConsistent}
 use Rattle.octi_grid.specs.Walks.{IsWalk}
 use Rattle.octi_grid.specs.Legal.{first_illegal}
 use Rattle.order_model.specs.declared.term.Term.{Term}
-use Rattle.order_model.specs.declared.term.Term.TheVariants.{Side, Link, Apart}
+use Rattle.order_model.specs.declared.term.Term.TheVariants.{Side}
 use Rattle.kept_trees.specs.declared.plan.SearchPlan.{SearchPlan}
 use Rattle.order_model.specs.declared.problem.ProblemParts.{ProblemParts}
 use Rattle.order_model.specs.Problems.{lines_on, IsProblem, IsTerm}
@@ -26,6 +27,7 @@ use Rattle.order_model.specs.Parts.{AreParts, IsRisingPart}
 use Rattle.order_model.specs.PartTerms.{is_of, numbered_from, part_terms, plain_terms}
 use Rattle.order_model.proofs.KeptTerms.{plain_kept}
 use Rattle.order_model.proofs.Lines.{order_distinct}
+use Rattle.order_model.proofs.PrefixLemmas.{contains_placed}
 use Rattle.order_model.proofs.OneParts.{problem_parts_are}
 use Rattle.order_model.proofs.PartLists.{part_known, parts_few}
 use Rattle.order_model.proofs.RisingLines.{few_rising}
@@ -34,6 +36,7 @@ use Rattle.order_proof.specs.Trees.{IsPartTree}
 use Rattle.order_proof.specs.Forms.{most_id}
 use Rattle.order_proof.specs.Ranges.{AreRisingSegments, IsPartInRange}
 use Rattle.order_model.specs.Questions.{question}
+use Rattle.order_rules.proofs.DivideProblem.{rising_kept}
 use Rattle.order_check.proofs.RuleTurns.{few_rules}
 use Rattle.order_search.specs.Finding.{with_lists}
 use Rattle.cert_file.specs.Forms.{are_distinct, is_among}
@@ -55,8 +58,8 @@ use Rattle.graph_maps.proofs.MadeLemmas.{map_is}
 use Rattle.graph_maps.proofs.PartOrders.{segs_of, segs_are}
 use Rattle.graph_maps.proofs.Promised.{accepts_map, ordered, segs_same, shows_certified}
 use Rattle.graph_maps.proofs.ReadAgain.{text_read}
-use Rattle.graph_maps.proofs.TreeRanges.{line_there, part_depth, part_tree_range, IsAsked, IsTermInRange}
-use Rattle.graph_maps.proofs.RuleRanges.{all_filtered, lines_kept, rules_range, IsLineInRange}
+use Rattle.graph_maps.proofs.TreeRanges.{starts_at_0, part_depth, part_tree_range, IsAsked, IsTermInRange, StartsAt}
+use Rattle.graph_maps.proofs.RuleRanges.{lines_kept, rules_range, IsLineInRange}
 use Rattle.graph_maps.proofs.UntangledLemmas.{last_is, rules_apply, untangled_fits}
 
 -- what a limited graph, its walks, its lines and its trees are
@@ -70,49 +73,28 @@ pub record IsLimited (importance : List ℕ) (drawn : Drawn) (parts : List Solve
 
 -- The lines that are drawn: they rise, and are no more than the lines on all segments.
 
-rising_after : (a : LineId) (test : LineId → Bool) (start n : ℕ) → a.0 < start → AreRising (a ∷ filter test (map line_numbered (range_with_len start n)))
-rising_after a test start zero h = tt
-rising_after a test start (suc n) h =
-    by_test (test (line_numbered start)) (rising_after (line_numbered start) test (start + 1) n (omega arith)) (rising_after a test (start + 1) n (omega (arith, h)))
-  where
-    by_test : (b : Bool) → AreRising (line_numbered start ∷ filter test (map line_numbered (range_with_len (start + 1) n))) → AreRising (a ∷ filter test (map line_numbered (range_with_len (start + 1) n)))
-        → AreRising (a ∷ cond b (line_numbered start ∷ filter test (map line_numbered (range_with_len (start + 1) n))) (filter test (map line_numbered (range_with_len (start + 1) n))))
-    by_test true kept other = (h, kept)
-    by_test false kept other = other
+numbers_rise : (start n : ℕ) → AreRising (map line_numbered (range_with_len start n))
+numbers_rise start zero = tt
+numbers_rise start (suc zero) = tt
+numbers_rise start (suc (suc n)) = (omega arith, numbers_rise (start + 1) (suc n))
 
-rising_drawn : (test : LineId → Bool) (start n : ℕ) → AreRising (filter test (map line_numbered (range_with_len start n)))
-rising_drawn test start zero = tt
-rising_drawn test start (suc n) = by_test (test (line_numbered start)) (rising_after (line_numbered start) test (start + 1) n (omega arith)) (rising_drawn test (start + 1) n)
-  where
-    by_test : (b : Bool) → AreRising (line_numbered start ∷ filter test (map line_numbered (range_with_len (start + 1) n))) → AreRising (filter test (map line_numbered (range_with_len (start + 1) n)))
-        → AreRising (cond b (line_numbered start ∷ filter test (map line_numbered (range_with_len (start + 1) n))) (filter test (map line_numbered (range_with_len (start + 1) n))))
-    by_test true kept other = kept
-    by_test false kept other = other
-
-drawn_known : (known : List LineId) (segs : List (List LineId)) → AllByRecursion (λ (ls : List LineId). All (Contains known) ls) segs → (a : LineId)
+drawn_known : (known : List LineId) (segs : List (List LineId)) → All (All (Contains known)) segs → (a : LineId)
     → list_any (λ (ls : List LineId). has_line ls a) segs ≡ true → Contains known a
-drawn_known known [] all a h = absurd (true≢false (sym h))
-drawn_known known (ls ∷ segs) all a h = by_case (or_cases (has_line ls a) (list_any (λ (l : List LineId). has_line l a) segs) h) (drawn_known known segs all.1 a)
-  where
-    by_case : (has_line ls a ≡ true) ⊎ (list_any (λ (l : List LineId). has_line l a) segs ≡ true) → (list_any (λ (l : List LineId). has_line l a) segs ≡ true → Contains known a) → Contains known a
-    by_case (inl e) later = All-contains (Contains known) ls a all.0 (line_there ls a e)
-    by_case (inr e) later = later e
-
-kept_pass : (P : LineId → Type 0) (test : LineId → Bool) → ((a : LineId) → test a ≡ true → P a) → (lines : List LineId) → AllByRecursion P (filter test lines)
-kept_pass P test f [] = tt
-kept_pass P test f (a ∷ lines) = by_test (test a) refl (kept_pass P test f lines)
-  where
-    by_test : (b : Bool) → test a ≡ b → AllByRecursion P (filter test lines) → AllByRecursion P (cond b (a ∷ filter test lines) (filter test lines))
-    by_test true e rest = (f a e, rest)
-    by_test false e rest = rest
+drawn_known known segs all a h =
+    let found = Any-from_list_any (λ (ls : List LineId). has_line ls a) segs h in
+    let there : All (Contains known) found.1 =
+    All-contains (All (Contains known)) segs found.1 all (found.0, found.2, found.3) in
+    All-contains (Contains known) found.1 a there (contains_placed found.1 a found.4)
 
 few_drawn : (graph : GraphParts) → IsConsistent graph → (count : ℕ) → length (drawn_lines count graph) ≤ 1000
 few_drawn graph fit count =
     let known : List LineId = fit.few_lines.0 in
-    let segs = recursion_from_All (λ (ls : List LineId). All (Contains known) ls) graph.lines fit.few_lines.2 in
+    let all : List LineId = map line_numbered (range_with_len 0 count) in
     let there : All (Contains known) (drawn_lines count graph) =
-    All-from_recursion (Contains known) (drawn_lines count graph) (kept_pass (Contains known) (is_drawn graph) (drawn_known known graph.lines segs) (map line_numbered (range_with_len 0 count))) in
-    omega (arith, few_rising (drawn_lines count graph) known (rising_drawn (is_drawn graph) 0 count) there, fit.few_lines.1)
+    All-weaker (λ (a : LineId). is_drawn graph a ≡ true) (Contains known)
+    (drawn_known known graph.lines fit.few_lines.2) (drawn_lines count graph) (filter_passes (is_drawn graph) all) in
+    let rising = rising_kept (is_drawn graph) all (numbers_rise 0 count) in
+    omega (arith, few_rising (drawn_lines count graph) known rising there, fit.few_lines.1)
 
 -- The importance of lines.
 
@@ -166,11 +148,10 @@ order_range lines order are moved = record {
 
 orders_range : (segs orders : List (List LineId)) → AllByRecursion AreLines segs → AreOrders segs orders → (length orders ≡ length segs) × AllByRecursion IsOrder orders
 orders_range [] [] all are = (refl, tt)
-orders_range [] (o ∷ orders) all are = absurd are
-orders_range (lines ∷ segs) [] all are = absurd are
 orders_range (lines ∷ segs) (o ∷ orders) all are =
     let rest = orders_range segs orders all.1 are.1 in
     (ap suc rest.0, (order_range lines o all.0 are.0, rest.1))
+orders_range segs orders all are = absurd are
 
 graph_lines : (importance : List ℕ) (graph : GraphParts) → IsConsistent graph → AreListed importance graph → length importance < 2 ^ 32 → (k : ℕ) (d : List LineId) → k < length graph.lines
     → AreLines (get_or graph.lines k d)
@@ -184,15 +165,13 @@ graph_lines importance graph fit listed few k d h = record {
 
 light : (segs : List (List LineId)) (t : Term) → IsTerm segs t → weight_of t ≤ 256000
 light segs (Side seg first second w) is = is.weight.1
-light segs (Link seg other flip a b w) is = is.weight.1
-light segs (Apart seg other a b w) is = is.weight.1
+light segs t is = is.weight.1
 
 abbrev IsLight : Term → Type 0
 IsLight t = weight_of t ≤ 256000
 
-lights : (segs : List (List LineId)) (terms : List Term) → All (IsTerm segs) terms → AllByRecursion IsLight terms
-lights segs [] all = tt
-lights segs (t ∷ terms) all = (light segs t (All-head (IsTerm segs) t terms all), lights segs terms (All-tail (IsTerm segs) t terms all))
+lights : (segs : List (List LineId)) (terms : List Term) → All (IsTerm segs) terms → All IsLight terms
+lights segs terms all = All-weaker (IsTerm segs) IsLight (light segs) terms all
 
 one_cost : (orders : List (List LineId)) (t : Term) → weight_of t ≤ 256000 → term_cost orders t ≤ 256000
 one_cost orders t h = by_test (is_met orders t)
@@ -201,17 +180,13 @@ one_cost orders t h = by_test (is_met orders t)
     by_test true = h
     by_test false = omega arith
 
-cost_small : (orders : List (List LineId)) (terms : List Term) → AllByRecursion IsLight terms → cost_of terms orders ≤ 256000 * length terms
-cost_small orders [] all = omega arith
-cost_small orders (t ∷ terms) all = omega (arith, sum_by-cons (term_cost orders) t terms, one_cost orders t all.0, cost_small orders terms all.1)
-
-few_filtered : {A : Type 0} (test : A → Bool) (xs : List A) → length (filter test xs) ≤ length xs
-few_filtered test [] = omega arith
-few_filtered test (x ∷ xs) = by_test (test x) (few_filtered test xs)
-  where
-    by_test : (b : Bool) → length (filter test xs) ≤ length xs → length (cond b (x ∷ filter test xs) (filter test xs)) ≤ suc (length xs)
-    by_test true h = omega (arith, h)
-    by_test false h = omega (arith, h)
+cost_small : (orders : List (List LineId)) (terms : List Term) → All IsLight terms
+    → cost_of terms orders ≤ 256000 * length terms
+cost_small orders terms all = omega (
+  arith,
+  sum_by-le (term_cost orders) 256000 terms
+      (All-weaker IsLight (λ (t : Term). term_cost orders t ≤ 256000) (one_cost orders) terms all),
+)
 
 -- The proof.
 
@@ -230,7 +205,9 @@ asked_range p fits are part target known = record {
   segs = λ s h. omega (arith, All-contains (λ (t : SegId). t.0 < length p.segs) part s known (contains_in part s h), fits.few_choices);
   few = λ s. few_on s (cases_lt s.0 (length p.segs));
   lines = λ s a h. in_range s a h (cases_lt s.0 (length p.segs));
-  terms = all_filtered IsTermInRange (λ (q : ℕ × Term). is_of part q.1) (numbered_from 0 p.terms) (numbered_range 0 p.terms (lights p.segs p.terms fits.terms) (omega (arith, fits.few_terms)));
+  terms = All-filter (λ (q : ℕ × Term). is_of part q.1) IsTermInRange (numbered_from 0 p.terms)
+      (All-from_recursion IsTermInRange (numbered_from 0 p.terms) (numbered_range 0 p.terms
+      (recursion_from_All IsLight p.terms (lights p.segs p.terms fits.terms)) (omega (arith, fits.few_terms))));
 }
   where
     few_on : (s : SegId) → (s.0 < length p.segs) ⊎ (length p.segs ≤ s.0) → length (lines_on p.segs s) ≤ 1000
@@ -238,19 +215,11 @@ asked_range p fits are part target known = record {
     few_on s (inr h) = omega (arith, ap length (get_or_past p.segs s.0 [] h))
 
     in_range : (s : SegId) (a : LineId) → has_line (lines_on p.segs s) a ≡ true → (s.0 < length p.segs) ⊎ (length p.segs ≤ s.0) → a.0 ≤ most_id
-    in_range s a there (inl h) = All-contains IsLineInRange (lines_on p.segs s) a (are.range s.0 [] h) (line_there (lines_on p.segs s) a there)
+    in_range s a there (inl h) = All-contains IsLineInRange (lines_on p.segs s) a (are.range s.0 [] h) (contains_placed (lines_on p.segs s) a there)
     in_range s a there (inr h) = absurd (true≢false (sym there ∙ ap (λ (ls : List LineId). has_line ls a) (get_or_past p.segs s.0 [] h)))
 
--- the first segment is at least so much
-abbrev StartsAt : ℕ → List SegId → Type 0
-StartsAt least [] = Unit {0}
-StartsAt least (s ∷ rest) = least ≤ s.0
-
-starts_at_0 : (part : List SegId) → StartsAt 0 part
-starts_at_0 [] = tt
-starts_at_0 (s ∷ rest) = omega arith
-
-segments_rise : (most least : ℕ) (part : List SegId) → most ≤ 20000000 → IsRisingPart part → AllByRecursion (λ (s : SegId). s.0 < most) part → StartsAt least part → AreRisingSegments least part
+segments_rise : (most least : ℕ) (part : List SegId) → most ≤ 20000000 → IsRisingPart part → AllByRecursion (λ (s : SegId). s.0 < most) part
+    → StartsAt (λ (s : SegId). s.0) least part → AreRisingSegments least part
 segments_rise most least [] few rising known from = tt
 segments_rise most least (s ∷ []) few rising known from = (from, omega (arith, few, known.0), tt)
 segments_rise most least (s ∷ t ∷ rest) few rising known from =
@@ -263,19 +232,20 @@ part_range plan p fits are s rising known shown tree =
     let orders : List (List LineId) = with_lists s.segs s.lists p.segs in
     let costs : cost_of (filter (is_of s.segs) p.terms) orders ≡ cost_of (plain_terms (part_terms p.terms s.segs)) orders =
     sym (ap (λ (ts : List Term). cost_of ts orders) (plain_kept s.segs p.terms)) in
-    let light_terms = lights p.segs p.terms fits.terms in
-    let small = cost_small orders (filter (is_of s.segs) p.terms) (all_filtered IsLight (is_of s.segs) p.terms light_terms) in
+    let small = cost_small orders (filter (is_of s.segs) p.terms)
+    (All-filter (is_of s.segs) IsLight p.terms (lights p.segs p.terms fits.terms)) in
     record {
       target = omega (
         arith,
         shown.bound orders shown.attained.orders,
         costs,
         small,
-        few_filtered (is_of s.segs) p.terms,
+        length-filter (is_of s.segs) p.terms,
+        count_by-le-length (is_of s.segs) p.terms,
         fits.few_terms,
       );
       segs = segments_rise (length p.segs) 0 s.segs (omega (arith, fits.few_choices)) rising
-          (recursion_from_All (λ (seg : SegId). seg.0 < length p.segs) s.segs known) (starts_at_0 s.segs);
+          (recursion_from_All (λ (seg : SegId). seg.0 < length p.segs) s.segs known) (starts_at_0 (λ (seg : SegId). seg.0) s.segs);
       tree = part_tree_range (question p.segs s.segs (part_terms p.terms s.segs) s.target)
           (asked_range p fits are s.segs s.target known) s.tree tree shown.accepted;
       depth = part_depth s.tree tree;
@@ -284,8 +254,7 @@ part_range plan p fits are s rising known shown tree =
 parts_range : (plan : SearchPlan) (p : ProblemParts) → IsProblem p → AreSegments p.segs → (parts : List SolvedPart)
     → AllByRecursion IsRisingPart (map segs_of parts)
     → AllByRecursion (λ (q : List SegId). All (λ (s : SegId). s.0 < length p.segs) q) (map segs_of parts)
-    → AllByRecursion (IsShown plan p) parts → HaveProofTrees parts
-    → AllByRecursion IsPartInRange (map proof_part parts)
+    → AllByRecursion (IsShown plan p) parts → HaveProofTrees parts → AllByRecursion IsPartInRange (map proof_part parts)
 parts_range plan p fits are [] rising known shown trees = tt
 parts_range plan p fits are (s ∷ parts) rising known shown trees = (
   part_range plan p fits are s rising.0 known.0 shown.0 trees.0,
@@ -310,8 +279,7 @@ module _ (plan : SearchPlan) (subject : Subject) (choices : Choices) (drawn : Dr
 
   -- what all lines of the graph are, all of the untangled problem are
   still : (Q : LineId → Type 0) → All (All Q) drawn.graph.lines → All (All Q) u.segs
-  still Q all =
-      subst (λ (q : ProblemParts). All (All Q) q.segs) (sym (last_is p whole.fits))
+  still Q all = subst (λ (q : ProblemParts). All (All Q) q.segs) (sym (last_is p whole.fits))
       (lines_kept Q p (untangling_rules p) whole.fits (rules_apply p whole.fits) (subst (All (All Q)) (sym (segs_same plan subject.importance choices drawn done whole)) all))
 
   graph_range : All (All IsLineInRange) drawn.graph.lines

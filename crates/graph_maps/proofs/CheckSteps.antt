@@ -44,14 +44,12 @@ gives_same {X} {Y} view result a b same h = subst (λ (outcome : Result Y CheckF
 -- texts that differ nowhere are one
 pub no_difference : (xs ys : List ℕ) → first_difference xs ys ≡ None → xs ≡ ys
 no_difference [] [] none = refl
-no_difference [] (y ∷ ys) none = absurd cc
-no_difference (x ∷ xs) [] none = absurd cc
 no_difference (x ∷ xs) (y ∷ ys) none = by (x == y) refl (first_difference xs ys) (no_difference xs ys) none
   where
     by : (t : Bool) → (x == y) ≡ t → (o : Option ℕ) → (o ≡ None → xs ≡ ys) → cond t (option_map (λ at. 1 + at) o) (Some 0) ≡ None → x ∷ xs ≡ y ∷ ys
     by true same None rest h = ap (λ (z : ℕ). z ∷ xs) (eqb-true x y same) ∙ ap (λ (zs : List ℕ). y ∷ zs) (rest refl)
-    by true same (Some at) rest h = absurd cc
-    by false same o rest h = absurd cc
+    by t same o rest h = absurd cc
+no_difference xs ys none = absurd cc
 
 -- what is proved of line orders in the problem that was made is proved in the graph's
 pub orders_bounded : (importance : List ℕ) (choices : Choices) (graph : GraphParts) (p : ProblemParts) (orders : List (List LineId))
@@ -78,8 +76,7 @@ module _ {A : Type 0} (claim : Claim) (p : ProblemParts) (orders : List (List Li
   by_refusal : unless_costlier claim p orders cost proof next ≡ unless_refused (option_map item.Proof refusal) next
   by_refusal =
       ap (λ (b : Bool). unless_refused (cond b None (Some item.Cost)) (unless_refused (proof_item claim p orders proof) next))
-      (eq-eqb cost (cost_of p.terms orders) (sym costs))
-      ∙ ap (λ (o : Option CheckItem). unless_refused o next) is
+      (eq-eqb cost (cost_of p.terms orders) (sym costs)) ∙ ap (λ (o : Option CheckItem). unless_refused o next) is
 
   -- nothing is refused
   pub proof_held : refusal ≡ None → unless_costlier claim p orders cost proof next ≡ next

@@ -1,9 +1,9 @@
 -- What orders cost is the sum of what they cost on the parts, as each term is of one part.
-use Rattle.std.proofs.Common.{◌≡◌, ◌∙◌, ap, sym, refl, ℕ, zero, suc, ◌+◌, ◌<◌, Bool, true, false, true≢false, cond, List, [], ◌∷◌, length, get_or, sum_by, arith}
+use Rattle.std.proofs.Common.{◌≡◌, ◌∙◌, ap, sym, refl, ℕ, zero, suc, ◌+◌, Bool, true, false, true≢false, cond, ◌&&◌, List, [], ◌∷◌, sum_by, arith}
 use Rattle.std.specs.List.{All, AllByRecursion, Contains, filter}
-use Rattle.std.proofs.lemmas.Bool.{and_from}
+use Rattle.std.proofs.lemmas.Bool.{and_from, false_from_ne_true}
 use Rattle.std.proofs.lemmas.List.Sums.{sum_by-cons}
-use Rattle.std.proofs.lemmas.List.Elements.{All-contains}
+use Rattle.std.proofs.lemmas.List.Elements.{All-contains, All-from_recursion}
 use Rattle.map_base.specs.declared.ids.SegId.{SegId}
 use Rattle.map_base.specs.declared.ids.LineId.{LineId}
 use Rattle.order_model.specs.declared.term.Term.{Term}
@@ -14,65 +14,39 @@ use Rattle.order_model.specs.PartTerms.{is_in, is_of}
 use Rattle.order_model.proofs.Lines.{both_true}
 use Rattle.order_model.proofs.Shares.{ShareNone, AreApartParts, parts_apart, part_cost, in_contained}
 use Rattle.order_model.proofs.TermParts.{end_known, end_wide, same_part}
-
-sum_same : (f g : List SegId → ℕ) → ((p : List SegId) → f p ≡ g p) → (parts : List (List SegId)) → sum_by f parts ≡ sum_by g parts
-sum_same f g same [] = refl
-sum_same f g same (p ∷ parts) = let rest = sum_same f g same parts in omega (arith, same p, rest, sum_by-cons f p parts, sum_by-cons g p parts)
-
-sum_both : (f g : List SegId → ℕ) (parts : List (List SegId)) → sum_by (λ p. f p + g p) parts ≡ sum_by f parts + sum_by g parts
-sum_both f g [] = refl
-sum_both f g (p ∷ parts) =
-    let rest = sum_both f g parts in
-    omega (arith, rest, sum_by-cons (λ p. f p + g p) p parts, sum_by-cons f p parts, sum_by-cons g p parts)
+use Rattle.order_bound.proofs.Sums.{sum_both, sum_same}
 
 -- a term's weight in a part
 abbrev share : Term → ℕ → List SegId → ℕ
 share t c p = cond (is_of p t) c 0
 
-share_in : (t : Term) (c : ℕ) (p : List SegId) → is_of p t ≡ true → share t c p ≡ c
-share_in t c p h = ap (λ (b : Bool). cond b c 0) h
+-- none in a part that has not its first segment
+share_out : (t : Term) (c : ℕ) (p : List SegId) → is_in p (seg_of t) ≡ false → share t c p ≡ 0
+share_out t c p h = ap (λ (b : Bool). cond (b && is_in p (other_of t)) c 0) h
 
-share_out : (t : Term) (c : ℕ) (p q : List SegId) → ShareNone q p → is_of p t ≡ true → share t c q ≡ 0
-share_out t c p q apart h = by_test (is_of q t) refl
-  where
-    by_test : (b : Bool) → is_of q t ≡ b → cond b c 0 ≡ 0
-    by_test false e = refl
-    by_test true e =
-        let there : is_in q (seg_of t) ≡ true = (both_true (is_in q (seg_of t)) (is_in q (other_of t)) e).0 in
-        let here : is_in p (seg_of t) ≡ true = (both_true (is_in p (seg_of t)) (is_in p (other_of t)) h).0 in
-        absurd (true≢false (sym here ∙ apart (seg_of t) there))
-
-none_later : (t : Term) (c : ℕ) (p : List SegId) (later : List (List SegId)) → AllByRecursion (ShareNone p) later → is_of p t ≡ true → sum_by (share t c) later ≡ 0
-none_later t c p [] apart h = refl
-none_later t c p (q ∷ later) apart h =
-    let rest = none_later t c p later apart.1 h in
-    omega (arith, rest, back, sum_by-cons (share t c) q later)
-  where
-    back : share t c q ≡ 0
-    back = by_test (is_of q t) refl
-      where
-        by_test : (b : Bool) → is_of q t ≡ b → cond b c 0 ≡ 0
-        by_test false e = refl
-        by_test true e =
-            let there : is_in q (seg_of t) ≡ true = (both_true (is_in q (seg_of t)) (is_in q (other_of t)) e).0 in
-            let here : is_in p (seg_of t) ≡ true = (both_true (is_in p (seg_of t)) (is_in p (other_of t)) h).0 in
-            absurd (true≢false (sym there ∙ apart.0 (seg_of t) here))
-
-apart_at : (p q : List SegId) (parts : List (List SegId)) (k : ℕ) → AllByRecursion (ShareNone q) parts → k < length parts → get_or parts k p ≡ p → ShareNone q p
-apart_at p q [] k all below is = absurd (omega (arith, below))
-apart_at p q (r ∷ parts) zero all below is = λ s h. sym (ap (λ (x : List SegId). is_in x s) is) ∙ all.0 s h
-apart_at p q (r ∷ parts) (suc k) all below is = apart_at p q parts k all.1 (omega (arith, below)) is
+none_later : (t : Term) (c : ℕ) (p : List SegId) (later : List (List SegId)) → AllByRecursion (ShareNone p) later
+    → is_in p (seg_of t) ≡ true → sum_by (share t c) later ≡ 0
+none_later t c p [] apart here = refl
+none_later t c p (q ∷ later) apart here =
+    let rest = none_later t c p later apart.1 here in
+    omega (arith, rest, share_out t c q (apart.0 (seg_of t) here), sum_by-cons (share t c) q later)
 
 -- one part has the term
-once : (t : Term) (c : ℕ) (p : List SegId) (parts : List (List SegId)) (k : ℕ) → AreApartParts parts → k < length parts → get_or parts k p ≡ p → is_of p t ≡ true
-    → sum_by (share t c) parts ≡ c
-once t c p [] k apart below is h = absurd (omega (arith, below))
-once t c p (q ∷ parts) zero apart below is h =
+once : (t : Term) (c : ℕ) (p : List SegId) (parts : List (List SegId)) → AreApartParts parts → Contains parts p
+    → is_of p t ≡ true → sum_by (share t c) parts ≡ c
+once t c p [] apart (k, below, is) h = absurd (omega (arith, below))
+once t c p (q ∷ parts) apart (zero, below, is) h =
     let own : is_of q t ≡ true = ap (λ (r : List SegId). is_of r t) is ∙ h in
-    omega (arith, share_in t c q own, none_later t c q parts apart.0 own, sum_by-cons (share t c) q parts)
-once t c p (q ∷ parts) (suc k) apart below is h =
-    let rest = once t c p parts k apart.1 (omega (arith, below)) is h in
-    omega (arith, rest, share_out t c p q (apart_at p q parts k apart.0 (omega (arith, below)) is) h, sum_by-cons (share t c) q parts)
+    let here : share t c q ≡ c = ap (λ (b : Bool). cond b c 0) own in
+    let later = none_later t c q parts apart.0 (both_true (is_in q (seg_of t)) (is_in q (other_of t)) own).0 in
+    omega (arith, here, later, sum_by-cons (share t c) q parts)
+once t c p (q ∷ parts) apart (suc k, below, is) h =
+    let there : Contains parts p = (k, omega (arith, below), is) in
+    let here : is_in p (seg_of t) ≡ true = (both_true (is_in p (seg_of t)) (is_in p (other_of t)) h).0 in
+    let none : ShareNone q p = All-contains (ShareNone q) parts p (All-from_recursion (ShareNone q) parts apart.0) there in
+    let first = share_out t c q
+    (false_from_ne_true (is_in q (seg_of t)) (λ e. true≢false (sym here ∙ none (seg_of t) e))) in
+    omega (arith, once t c p parts apart.1 there h, first, sum_by-cons (share t c) q parts)
 
 one_more_term : (t : Term) (terms : List Term) (orders : List (List LineId)) (p : List SegId)
     → part_cost (t ∷ terms) orders p ≡ share t (term_cost orders t) p + part_cost terms orders p
@@ -103,12 +77,12 @@ module _ (segs : List (List LineId)) (all : List Term) (parts : List (List SegId
       let home = home_of t (sub t (0, omega arith, refl)) in
       let rest = shares_are terms orders (λ u h. sub u (suc h.0, omega (arith, h.1), h.2)) in
       let grown : sum_by (part_cost (t ∷ terms) orders) parts ≡ sum_by (λ p. share t c p + part_cost terms orders p) parts =
-      sum_same (part_cost (t ∷ terms) orders) (λ p. share t c p + part_cost terms orders p) (one_more_term t terms orders) parts in
+      sum_same (part_cost (t ∷ terms) orders) (λ p. share t c p + part_cost terms orders p) parts (one_more_term t terms orders) in
       omega (
         arith,
         rest,
         grown,
-        once t c home.0 parts home.1.0 (parts_apart segs all parts ok) home.1.1 home.1.2 home.2,
+        once t c home.0 parts (parts_apart segs all parts ok) home.1 home.2,
         sum_both (share t c) (part_cost terms orders) parts,
         sum_by-cons (term_cost orders) t terms,
       )

@@ -21,9 +21,8 @@ use Rattle.graph_maps.specs.Making.{HasCause}
 pub not_routed : (importance : List ℕ) (choices : Choices) (method : MethodChoices) (parts : GraphParts)
     (stop : RouteFault) → routing.HasCause (drawing_outcome parts choices.cell method.spread method.finest method.straight) stop
     → HasCause (drawn_on importance choices method parts) (of_route stop)
-not_routed importance choices method parts (route.NoRoute seg) h = ap (routed_by importance choices parts) h
-not_routed importance choices method parts (route.Limit l) h = ap (routed_by importance choices parts) h
 not_routed importance choices method parts route.NoMemory h = tt
+not_routed importance choices method parts stop h = ap (routed_by importance choices parts) h
 
 -- too many terms refuse it
 pub not_counted : (importance : List ℕ) (choices : Choices) (method : MethodChoices) (parts : GraphParts)

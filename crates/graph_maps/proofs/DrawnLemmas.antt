@@ -1,10 +1,12 @@
 -- The lines that are marked are those that stand on segments.
 use Rattle.std.proofs.Common.{◌≡◌, ◌≢◌, ◌∙◌, ap, sym, refl, subst, ℕ, zero, suc, ◌+◌, ◌<◌, ◌≤◌, ◌==◌, ◌||◌, Bool, true, false, true≢false, cond, List, [], ◌∷◌, length, map, drop, get_or, replicate, Some, arith, set, get_or-set_same, get_or-set_other, length-set, eqb-true, eq-eqb, All}
 use Rattle.std.specs.List.{AllByRecursion, filter, list_any, range_with_len, slice_get}
+use Rattle.std.proofs.Math.Bool.{or_assoc, or_comm, or-false}
 use Rattle.std.proofs.lemmas.List.{at_drop_more, length-replicate}
-use Rattle.std.proofs.lemmas.Option.{slice_get_within, slice_get-get_or}
+use Rattle.std.proofs.lemmas.List.Sums.{length-filter, count_by-le-length}
+use Rattle.std.proofs.lemmas.Option.{same_Some, slice_get_within, slice_get-get_or}
 use Rattle.std.proofs.lemmas.List.FromFn.{length-map-range_with_len}
-use Rattle.std.proofs.lemmas.List.Elements.{All-head, All-tail, All-from_recursion}
+use Rattle.std.proofs.lemmas.List.Elements.{All-head, All-tail, All-filter, All-from_recursion}
 use Rattle.map_base.specs.declared.ids.LineId.{LineId}
 use Rattle.order_model.specs.Places.{has_line}
 use Rattle.graph_core.specs.declared.parts.GraphParts.{GraphParts}
@@ -14,20 +16,6 @@ use Rattle.graph_maps.specs.DrawnLines.{after_lines, after_segments, marked_line
 -- the line stands on one of the segments
 abbrev on_some : List (List LineId) → LineId → Bool
 on_some segs a = list_any (λ (lines : List LineId). has_line lines a) segs
-
-or_assoc : (a b c : Bool) → (a || (b || c)) ≡ ((a || b) || c)
-or_assoc true b c = refl
-or_assoc false b c = refl
-
-or_false : (a : Bool) → (a || false) ≡ a
-or_false true = refl
-or_false false = refl
-
-or_swap : (a b c : Bool) → (a || (b || c)) ≡ (b || (a || c))
-or_swap true true c = refl
-or_swap true false c = refl
-or_swap false true c = refl
-or_swap false false c = refl
 
 pub length-after_lines : (lines : List LineId) (marks : List Bool) → length (after_lines lines marks) ≡ length marks
 length-after_lines [] marks = refl
@@ -53,8 +41,8 @@ after_lines_at (a ∷ lines) marks k below =
     subst (λ (n : ℕ). All (λ (b : LineId). b.0 < n) lines) (sym (length-set marks a.0 true)) (All-tail (λ (b : LineId). b.0 < length marks) a lines below) in
     after_lines_at lines (set marks a.0 true) k later
     ∙ ap (λ (b : Bool). has_line lines (line_numbered k) || b) (set_mark marks a.0 k here)
-    ∙ or_swap (has_line lines (line_numbered k)) (a.0 == k) (get_or marks k false)
-    ∙ or_assoc (a.0 == k) (has_line lines (line_numbered k)) (get_or marks k false)
+    ∙ sym (or_assoc (has_line lines (line_numbered k)) (a.0 == k) (get_or marks k false))
+    ∙ ap (λ (b : Bool). b || get_or marks k false) (or_comm (has_line lines (line_numbered k)) (a.0 == k))
 
 pub after_segments_at : (segs : List (List LineId)) (marks : List Bool) (k : ℕ) → All (All (λ (a : LineId). a.0 < length marks)) segs
     → get_or (after_segments segs marks) k false ≡ (on_some segs (line_numbered k) || get_or marks k false)
@@ -65,8 +53,9 @@ after_segments_at (lines ∷ segs) marks k below =
     subst (λ (n : ℕ). All (All (λ (a : LineId). a.0 < n)) segs) (sym (length-after_lines lines marks)) (All-tail (All (λ (a : LineId). a.0 < length marks)) lines segs below) in
     after_segments_at segs (after_lines lines marks) k later
     ∙ ap (λ (b : Bool). on_some segs (line_numbered k) || b) (after_lines_at lines marks k here)
-    ∙ or_swap (on_some segs (line_numbered k)) (has_line lines (line_numbered k)) (get_or marks k false)
-    ∙ or_assoc (has_line lines (line_numbered k)) (on_some segs (line_numbered k)) (get_or marks k false)
+    ∙ sym (or_assoc (on_some segs (line_numbered k)) (has_line lines (line_numbered k)) (get_or marks k false))
+    ∙ ap (λ (b : Bool). b || get_or marks k false)
+    (or_comm (on_some segs (line_numbered k)) (has_line lines (line_numbered k)))
 
 -- the lines that are marked, by what each mark says
 marked_by : (marks : List Bool) (n : ℕ) (test : LineId → Bool) → ((k : ℕ) → k < length marks → get_or marks k false ≡ test (line_numbered (n + k)))
@@ -91,7 +80,7 @@ pub marked_are_drawn : (segs : List (List LineId)) (count : ℕ) (marks : List B
 marked_are_drawn segs count marks each none below same =
     let told : (k : ℕ) → k < length (after_segments segs marks) → get_or (after_segments segs marks) k false ≡ on_some segs (line_numbered (0 + k)) =
     λ k h. after_segments_at segs marks k (subst (λ (n : ℕ). All (All (λ (a : LineId). a.0 < n)) segs) (sym each) below)
-    ∙ ap (λ (b : Bool). on_some segs (line_numbered k) || b) (none k) ∙ or_false (on_some segs (line_numbered k))
+    ∙ ap (λ (b : Bool). on_some segs (line_numbered k) || b) (none k) ∙ or-false (on_some segs (line_numbered k))
     ∙ ap (λ (i : ℕ). on_some segs (line_numbered i)) (let e : k ≡ 0 + k = omega arith in e) in
     marked_by (after_segments segs marks) 0 (on_some segs) told
     ∙ ap (λ (n : ℕ). filter (on_some segs) (map line_numbered (range_with_len 0 n))) same
@@ -105,13 +94,11 @@ pub segments_more : (segs : List (List LineId)) (s : ℕ) (lines : List LineId) 
     → after ≡ after_lines lines marks → after_segments (drop s segs) marks ≡ start → after_segments (drop (s + 1) segs) after ≡ start
 segments_more segs s lines marks after start is step so_far =
     let below : s < length segs = slice_get_within segs s lines is in
-    let here : get_or segs s lines ≡ lines = some_same (sym (slice_get-get_or segs s lines below) ∙ is) in
+    let here : get_or segs s lines ≡ lines =
+    same_Some (get_or segs s lines) lines (sym (slice_get-get_or segs s lines below) ∙ is) in
     let more : after_segments (drop s segs) marks ≡ after_segments (get_or segs s lines ∷ drop (s + 1) segs) marks =
     at_drop_more (λ (rest : List (List LineId)). after_segments rest marks) segs s lines below in
     ap (after_segments (drop (s + 1) segs)) (step ∙ ap (λ (ls : List LineId). after_lines ls marks) (sym here)) ∙ sym more ∙ so_far
-  where
-    some_same : {x y : List LineId} → Some x ≡ Some y → x ≡ y
-    some_same e = cc
 
 replicate_none : (count k : ℕ) → get_or (replicate count false) k false ≡ false
 replicate_none zero k = refl
@@ -130,27 +117,25 @@ numbered_below : (most start n : ℕ) → start + n ≤ most → AllByRecursion 
 numbered_below most start zero h = tt
 numbered_below most start (suc n) h = (omega (arith, h), numbered_below most (start + 1) n (omega (arith, h)))
 
-kept_below : (most : ℕ) (test : LineId → Bool) (lines : List LineId) → AllByRecursion (λ (a : LineId). a.0 < most) lines → AllByRecursion (λ (a : LineId). a.0 < most) (filter test lines)
-kept_below most test [] all = tt
-kept_below most test (a ∷ lines) all = by_test (test a) (kept_below most test lines all.1)
-  where
-    by_test : (b : Bool) → AllByRecursion (λ (c : LineId). c.0 < most) (filter test lines) → AllByRecursion (λ (c : LineId). c.0 < most) (cond b (a ∷ filter test lines) (filter test lines))
-    by_test true rest = (all.0, rest)
-    by_test false rest = rest
-
-kept_few : (test : LineId → Bool) (lines : List LineId) → length (filter test lines) ≤ length lines
-kept_few test [] = omega arith
-kept_few test (a ∷ lines) = by_test (test a) (kept_few test lines)
-  where
-    by_test : (b : Bool) → length (filter test lines) ≤ length lines → length (cond b (a ∷ filter test lines) (filter test lines)) ≤ suc (length lines)
-    by_test true h = omega (arith, h)
-    by_test false h = omega (arith, h)
-
 -- the lines on segments are below their count, and no more
-pub drawn_below : (count : ℕ) (graph : GraphParts) → All (λ (a : LineId). a.0 < count) (drawn_lines count graph)
+drawn_below : (count : ℕ) (graph : GraphParts) → All (λ (a : LineId). a.0 < count) (drawn_lines count graph)
 drawn_below count graph =
-    All-from_recursion (λ (a : LineId). a.0 < count) (drawn_lines count graph)
-    (kept_below count (is_drawn graph) (map line_numbered (range_with_len 0 count)) (numbered_below count 0 count (omega arith)))
+    let lines : List LineId = map line_numbered (range_with_len 0 count) in
+    All-filter (is_drawn graph) (λ (a : LineId). a.0 < count) lines
+    (All-from_recursion (λ (a : LineId). a.0 < count) lines (numbered_below count 0 count (omega arith)))
+
+pub drawn_within : (graph : GraphParts) (count n : ℕ) (lines : List LineId) → lines ≡ drawn_lines count graph → count ≡ n
+    → All (λ (a : LineId). a.0 < n) lines
+drawn_within graph count n lines are each =
+    subst (λ (m : ℕ). All (λ (a : LineId). a.0 < m) lines) each
+    (subst (All (λ (a : LineId). a.0 < count)) (sym are) (drawn_below count graph))
 
 pub drawn_few : (count : ℕ) (graph : GraphParts) → length (drawn_lines count graph) ≤ count
-drawn_few count graph = omega (arith, kept_few (is_drawn graph) (map line_numbered (range_with_len 0 count)), length-map-range_with_len line_numbered 0 count)
+drawn_few count graph =
+    let lines : List LineId = map line_numbered (range_with_len 0 count) in
+    omega (
+      arith,
+      length-filter (is_drawn graph) lines,
+      count_by-le-length (is_drawn graph) lines,
+      length-map-range_with_len line_numbered 0 count,
+    )

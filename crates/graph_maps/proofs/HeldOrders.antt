@@ -1,6 +1,7 @@
 -- Orders that are not refused are orders of their segments.
-use Rattle.std.proofs.Common.{◌≡◌, ◌∙◌, ap, sym, subst, refl, ℕ, suc, ◌+◌, ◌==◌, ◌&&◌, ◌||◌, not, Bool, true, false, true≢false, cond, List, [], ◌∷◌, ◌++◌, length, drop, get_or, Some, None, arith, eqb-true, eq-eqb, ◌<◌}
+use Rattle.std.proofs.Common.{◌≡◌, ◌∙◌, ap, sym, subst, refl, ℕ, ◌+◌, ◌==◌, ◌&&◌, ◌||◌, not, Bool, true, false, cond, List, [], ◌∷◌, ◌++◌, length, length-append, drop, get_or, Some, None, arith, eqb-true, ◌<◌}
 use Rattle.std.specs.List.{list_all, AllByRecursion, slice_get}
+use Rattle.std.proofs.lemmas.Bool.Decides.{nat_tests}
 use Rattle.std.proofs.lemmas.List.{at_drop_more}
 use Rattle.std.proofs.lemmas.Option.{slice_get_within, get_or_from_slice_get}
 use Rattle.std.specs.List.Sorted.{IsPermutation}
@@ -34,11 +35,7 @@ stays (p ∷ before) behind a x other there = by (p.0 == x.0) (stays before behi
     by false later h = later h
 
 flipped : (a x : LineId) → (x.0 == a.0) ≡ false → (a.0 == x.0) ≡ false
-flipped a x h = by (a.0 == x.0) refl
-  where
-    by : (t : Bool) → (a.0 == x.0) ≡ t → (a.0 == x.0) ≡ false
-    by true is = absurd (true≢false (sym (eq-eqb x.0 a.0 (sym (eqb-true a.0 x.0 is))) ∙ h))
-    by false is = is
+flipped a x h = grind (arith, nat_tests)
 
 all_stay : (before behind order : List LineId) (a : LineId) → is_among order a ≡ false → list_all (has_line (before ++ a ∷ behind)) order ≡ true
     → list_all (has_line (before ++ behind)) order ≡ true
@@ -60,18 +57,12 @@ permuted (a ∷ order) lines distinct all each =
     let kept : List LineId = at.0 ++ at.1 in
     let rest = all_stay at.0 at.1 order a (not_true (is_among order a) apart.0) (subst (λ (xs : List LineId). list_all (has_line xs) order ≡ true) at.2 here.1) in
     let first : IsPermutation lines (a ∷ kept) = subst (λ (xs : List LineId). IsPermutation xs (a ∷ kept)) (sym at.2) (IsPermutation-middle at.0 a at.1) in
-    let fewer : length order ≡ length kept = omega (arith, each, ap length at.2, length_middle at.0 at.1 a) in
+    let fewer : length order ≡ length kept = omega (arith, each, ap length at.2, length-append at.0 (a ∷ at.1), length-append at.0 at.1) in
     IsPermutation-trans lines (a ∷ kept) (a ∷ order) first (IsPermutation-cons a kept order (permuted order kept apart.1 rest fewer))
-  where
-    length_middle : (before behind : List LineId) (x : LineId) → length (before ++ x ∷ behind) ≡ suc (length (before ++ behind))
-    length_middle [] behind x = refl
-    length_middle (p ∷ before) behind x = ap suc (length_middle before behind x)
 
 -- orders of which none is refused are orders of their segments
 pub orders_held : (segs orders : List (List LineId)) (k : ℕ) → AllByRecursion IsOrder orders → length orders ≡ length segs → first_disorder k segs orders ≡ None → AreOrders segs orders
 orders_held [] [] k range each none = tt
-orders_held [] (o ∷ orders) k range each none = absurd (omega (arith, each))
-orders_held (lines ∷ segs) [] k range each none = absurd (omega (arith, each))
 orders_held (lines ∷ segs) (o ∷ orders) k range each none = by (is_order lines o) refl (orders_held segs orders (k + 1) range.1 (omega (arith, each))) none
   where
     by : (t : Bool) → is_order lines o ≡ t → (first_disorder (k + 1) segs orders ≡ None → AreOrders segs orders)
@@ -80,6 +71,7 @@ orders_held (lines ∷ segs) (o ∷ orders) k range each none = by (is_order lin
         let parts = both_true (length o == length lines) (list_all (has_line lines) o) is in
         (permuted o lines range.0.distinct parts.1 (eqb-true (length o) (length lines) parts.0), later h)
     by false is later h = absurd cc
+orders_held segs orders k range each none = absurd (omega (arith, each))
 
 -- the first disorder from segment s on, by the order of s
 pub disorder_at : (segs orders : List (List LineId)) (s : ℕ) (lines order d : List LineId) → slice_get segs s ≡ Some lines → order ≡ get_or orders s d → s < length orders

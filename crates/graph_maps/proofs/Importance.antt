@@ -17,7 +17,6 @@ number_at importance all k = by_place (cases_lt k (length importance))
 
 -- all lines of a graph have their numbers
 pub have_importance : (importance : List ℕ) (graph : GraphParts) → All IsImportance importance
-    → AreListed importance graph
-    → HaveImportance importance graph.lines
+    → AreListed importance graph → HaveImportance importance graph.lines
 have_importance importance graph all listed = λ k d h i e below.
     (listed k d h i e below, all (get_or (get_or graph.lines k d) i e).0 0 (listed k d h i e below))

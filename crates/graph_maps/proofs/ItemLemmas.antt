@@ -1,5 +1,6 @@
 -- The items of a check, by loops.
 use Rattle.std.proofs.Common.{◌≡◌, ◌≢◌, ap, sym, subst, refl, ℕ, zero, suc, ◌+◌, ◌<◌, ◌≤◌, ◌==◌, nat_lt, ◌&&◌, ◌||◌, ◌⊎◌, inl, inr, Bool, true, false, true≢false, min, List, [], ◌∷◌, length, drop, get_or, Some, arith, eqb-true, eq-eqb, ltb-true, ltb-false}
+use Rattle.std.proofs.lemmas.List.{get_or_default}
 use Rattle.map_base.specs.declared.ids.LineId.{LineId}
 use Rattle.graph_core.specs.Consistent.{AreRising}
 use Rattle.order_model.specs.Places.{has_line}
@@ -8,13 +9,12 @@ use Rattle.graph_maps.specs.Checking.{are_same_pairs, first_difference}
 -- lists of different lengths are not the same
 pub other_lengths : (some others : List (LineId × ℕ)) → (length some ≡ length others → ⊥) → are_same_pairs some others ≡ false
 other_lengths [] [] h = absurd (h refl)
-other_lengths [] (q ∷ others) h = refl
-other_lengths (p ∷ some) [] h = refl
 other_lengths (p ∷ some) (q ∷ others) h = by_rest (p.0.0 == q.0.0 && p.1 == q.1) (other_lengths some others (λ e. h (ap suc e)))
   where
     by_rest : (b : Bool) → are_same_pairs some others ≡ false → (b && are_same_pairs some others) ≡ false
     by_rest true e = e
     by_rest false e = refl
+other_lengths some others h = refl
 
 -- a line that stands somewhere is there
 pub has_at : (lines : List LineId) (k : ℕ) (a : LineId) → k < length lines → (get_or lines k a).0 ≡ a.0 → has_line lines a ≡ true
@@ -57,26 +57,16 @@ rising_at (a ∷ lines) d (suc i) zero h less below = absurd (omega (arith, less
 rising_at (a ∷ lines) d (suc i) (suc j) h less below = rising_at lines d i j (rising_tail a lines h) (omega (arith, less)) (omega (arith, below))
 
 -- a place that is below neither end of a range lies within it
-no_line : (lines : List LineId) (a : LineId) (low high : ℕ) → high ≤ low → ((k : ℕ) → k < low → (get_or lines k a).0 < a.0)
+pub line_nowhere : (lines : List LineId) (a : LineId) (low high : ℕ) → high ≤ low → ((k : ℕ) → k < low → (get_or lines k a).0 < a.0)
     → ((k : ℕ) → high ≤ k → k < length lines → a.0 < (get_or lines k a).0) → has_line lines a ≡ false
-no_line lines a low high met below above = has_none lines a (λ k within is. by_test k within is (nat_lt k low) refl)
+line_nowhere lines a low high met below above = has_none lines a (λ k within is. by_test k within is (nat_lt k low) refl)
   where
     by_test : (k : ℕ) → k < length lines → (get_or lines k a).0 ≡ a.0 → (t : Bool) → nat_lt k low ≡ t → ⊥
     by_test k within is true e = let less : (get_or lines k a).0 < a.0 = below k (ltb-true k low e) in omega (arith, less, is)
     by_test k within is false e = let less : a.0 < (get_or lines k a).0 = above k (let up : low ≤ k = ltb-false k low e in omega (arith, up, met)) within in omega (arith, less, is)
 
-pub line_nowhere : (lines : List LineId) (a : LineId) (low high : ℕ) → high ≤ low → ((k : ℕ) → k < low → (get_or lines k a).0 < a.0)
-    → ((k : ℕ) → high ≤ k → k < length lines → a.0 < (get_or lines k a).0) → has_line lines a ≡ false
-line_nowhere = no_line
-
--- what stands at a place is there whatever stands for none
-at_place : (lines : List LineId) (k : ℕ) (d e : LineId) → k < length lines → get_or lines k d ≡ get_or lines k e
-at_place [] k d e below = absurd (omega (arith, below))
-at_place (a ∷ lines) zero d e below = refl
-at_place (a ∷ lines) (suc k) d e below = at_place lines k d e (omega (arith, below))
-
 number_at : (lines : List LineId) (k : ℕ) (d e : LineId) → k < length lines → (get_or lines k d).0 ≡ (get_or lines k e).0
-number_at lines k d e below = ap (λ (x : LineId). x.0) (at_place lines k d e below)
+number_at lines k d e below = ap (λ (x : LineId). x.0) (get_or_default lines k d e below)
 
 -- of rising lines all up to one below a line are below it, and all from one above it on are above it
 pub up_to : (lines : List LineId) (a d : LineId) (m : ℕ) → AreRising lines → m < length lines → (get_or lines m d).0 < a.0 → (k : ℕ) → k < m + 1 → (get_or lines k a).0 < a.0

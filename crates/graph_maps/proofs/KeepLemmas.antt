@@ -43,11 +43,9 @@ AreHeld plan held p parts = All (λ (part : List SegId). Contains held (held_as 
 -- parts that were held are held among more
 pub all_held : (plan : SearchPlan) (old new : List HeldPart) (p : ProblemParts) (parts : List (List SegId))
     → All (Contains new) old → AreHeld plan old p parts → AreHeld plan new p parts
-all_held plan old new p parts kept before =
-    All-weaker (λ (q : List SegId). Contains old (held_as plan p q))
+all_held plan old new p parts kept before = All-weaker (λ (q : List SegId). Contains old (held_as plan p q))
     (λ (q : List SegId). Contains new (held_as plan p q))
-    (λ q there. All-contains (Contains new) old (held_as plan p q) kept there)
-    parts before
+    (λ q there. All-contains (Contains new) old (held_as plan p q) kept there) parts before
 
 -- one part more is held
 pub one_held : (plan : SearchPlan) (old new : List HeldPart) (p : ProblemParts) (k : ℕ) (part : List SegId)
@@ -95,8 +93,7 @@ module _ {X : Type 0} (P : X → Type 0) (test : X → Bool) where
 finished_from : (plan : SearchPlan) (p : ProblemParts) (held : List HeldPart)
     → AllByRecursion (λ (part : List SegId). Contains held (held_as plan p part))
     (take_while (is_solvable plan p) (parts_in p)) → All (Contains held) (finished_of plan p)
-finished_from plan p held each =
-    All-map (Contains held) (held_as plan p) (take_while (is_solvable plan p) (parts_in p))
+finished_from plan p held each = All-map (Contains held) (held_as plan p) (take_while (is_solvable plan p) (parts_in p))
     (All-from_recursion (λ (part : List SegId). Contains held (held_as plan p part))
     (take_while (is_solvable plan p) (parts_in p)) each)
 
@@ -114,24 +111,19 @@ pub held_before : (plan : SearchPlan) (X : Type 0) (p : ProblemParts) (k : ℕ) 
 held_before plan X p k part held e below is why before = by_fault e why
   where
     all : is_solvable plan p part ≡ false → All (Contains held) (finished_of plan p)
-    all fails =
-        finished_from plan p held
+    all fails = finished_from plan p held
         (before_failing (λ (q : List SegId). Contains held (held_as plan p q)) (is_solvable plan p)
         (parts_in p) k part below (ap (is_solvable plan p) (sym is) ∙ fails)
         (recursion_from_All (λ (q : List SegId). Contains held (held_as plan p q)) (take k (parts_in p)) before))
 
     by_fault : (f : MakeFault) → IsUnsolved plan p k part f → HoldsFinished {X = X} (Err f) (finished_of plan p) held
     by_fault fault.NoMemory w = tt
-    by_fault (fault.NoRoute seg) w = all (none_found k part (part_outcome plan p part) (fault.NoRoute seg) w)
-    by_fault (fault.Spent component branches) w = all
-        (none_found k part (part_outcome plan p part) (fault.Spent component branches) w)
-    by_fault (fault.Limit limit) w = all (none_found k part (part_outcome plan p part) (fault.Limit limit) w)
+    by_fault f w = all (none_found k part (part_outcome plan p part) f w)
 
 -- where all are solved, all are held
 pub held_all : (plan : SearchPlan) (p : ProblemParts) (k : ℕ) (held : List HeldPart) → length (parts_in p) ≤ k
     → AreHeld plan held p (take k (parts_in p)) → All (Contains held) (finished_of plan p)
-held_all plan p k held over each =
-    finished_from plan p held
+held_all plan p k held over each = finished_from plan p held
     (before_end (λ (q : List SegId). Contains held (held_as plan p q)) (is_solvable plan p) (parts_in p)
     (recursion_from_All (λ (q : List SegId). Contains held (held_as plan p q)) (parts_in p)
     (subst (AreHeld plan held p) (take_all k (parts_in p) over) each)))
@@ -175,19 +167,28 @@ pub left_is : (held : List HeldPart) (plan : SearchPlan) (outcome : Result Drawn
     → outcome ≡ Ok drawn
     → missing_branches held plan outcome ≡ sum_by (branches_to_meet held plan (untangled_problem drawn.problem))
     (parts_in (untangled_problem drawn.problem))
-left_is held plan outcome drawn is =
-    ap (missing_branches held plan) is
+left_is held plan outcome drawn is = ap (missing_branches held plan) is
     ∙ missing_sum plan held (untangled_problem drawn.problem) (parts_in (untangled_problem drawn.problem))
 
--- what a map finishes is what its untangled problem finishes
-pub finished_is : (plan : SearchPlan) (outcome : Result Drawn MakeFault) (drawn : Drawn) → outcome ≡ Ok drawn
-    → finished_in plan outcome ≡ finished_of plan (untangled_problem drawn.problem)
-finished_is plan outcome drawn is = ap (finished_in plan) is
+-- so many steps as they meet over a plan are those that are left
+pub steps_left : (held : List HeldPart) (plan q : SearchPlan) (outcome : Result Drawn MakeFault) (drawn : Drawn)
+    (before after : ℕ) → outcome ≡ Ok drawn → q ≡ plan
+    → after ≤ before + sum_by (branches_to_meet held q (untangled_problem drawn.problem))
+    (parts_in (untangled_problem drawn.problem)) → after ≤ before + missing_branches held plan outcome
+steps_left held plan q outcome drawn before after is same few =
+    let p : ProblemParts = untangled_problem drawn.problem in
+    let taken = subst (λ (r : SearchPlan). after ≤ before + sum_by (branches_to_meet held r p) (parts_in p)) same few in
+    omega (arith, left_is held plan outcome drawn is, taken)
+
+-- what a map finishes is what its untangled problem finishes over a plan
+pub finished_is : (plan q : SearchPlan) (outcome : Result Drawn MakeFault) (drawn : Drawn) → outcome ≡ Ok drawn
+    → q ≡ plan → finished_of q (untangled_problem drawn.problem) ≡ finished_in plan outcome
+finished_is plan q outcome drawn is same =
+    ap (λ (r : SearchPlan). finished_of r (untangled_problem drawn.problem)) same ∙ sym (ap (finished_in plan) is)
 
 -- where there is no problem, nothing is finished
 pub nothing_finished : (X : Type 0) (plan : SearchPlan) (outcome : Result Drawn MakeFault) (held : List HeldPart)
-    (e : MakeFault)
-    → HasCause outcome e → HoldsFinished {X = X} (Err e) (finished_in plan outcome) held
+    (e : MakeFault) → HasCause outcome e → HoldsFinished {X = X} (Err e) (finished_in plan outcome) held
 nothing_finished X plan outcome held e cause = by_fault e cause
   where
     none : (f : MakeFault) → outcome ≡ Err f → All (Contains held) (finished_in plan outcome)
@@ -195,14 +196,10 @@ nothing_finished X plan outcome held e cause = by_fault e cause
 
     by_fault : (f : MakeFault) → HasCause outcome f → HoldsFinished {X = X} (Err f) (finished_in plan outcome) held
     by_fault fault.NoMemory h = tt
-    by_fault (fault.NoRoute seg) h = none (fault.NoRoute seg) h
-    by_fault (fault.Spent component branches) h = none (fault.Spent component branches) h
-    by_fault (fault.Limit limit) h = none (fault.Limit limit) h
+    by_fault f h = none f h
 
 -- what a refusal says of held parts, whatever was refused
 pub same_held : (X Y : Type 0) (e : MakeFault) (parts held : List HeldPart) → HoldsFinished {X = X} (Err e) parts held
     → HoldsFinished {X = Y} (Err e) parts held
 same_held X Y fault.NoMemory parts held h = tt
-same_held X Y (fault.NoRoute seg) parts held h = h
-same_held X Y (fault.Spent component branches) parts held h = h
-same_held X Y (fault.Limit limit) parts held h = h
+same_held X Y e parts held h = h

@@ -116,11 +116,7 @@ pub not_drawn : (A : Type 0) (makes : SolvedMap → A) (choices : Choices) (meth
     (outcome : Result Drawn MakeFault) (e : MakeFault) → HasCause outcome e
     → HasCause (if_solved makes (solved_of choices method outcome)) e
 not_drawn A makes choices method outcome fault.NoMemory h = tt
-not_drawn A makes choices method outcome (fault.NoRoute seg) h = ap
-    (λ (o : Result Drawn MakeFault). if_solved makes (solved_of choices method o)) h
-not_drawn A makes choices method outcome (fault.Spent component branches) h = ap
-    (λ (o : Result Drawn MakeFault). if_solved makes (solved_of choices method o)) h
-not_drawn A makes choices method outcome (fault.Limit limit) h = ap
+not_drawn A makes choices method outcome e h = ap
     (λ (o : Result Drawn MakeFault). if_solved makes (solved_of choices method o)) h
 
 -- and so do parts that are
@@ -132,16 +128,13 @@ not_solved A makes choices method outcome drawn e is h = by_fault e h
   where
     refused : (f : MakeFault) → solve_outcome (plan_of choices method) (untangled_problem drawn.problem) ≡ Err f
         → if_solved makes (solved_of choices method outcome) ≡ Err f
-    refused f i =
-        ap (λ (o : Result Drawn MakeFault). if_solved makes (solved_of choices method o)) is
+    refused f i = ap (λ (o : Result Drawn MakeFault). if_solved makes (solved_of choices method o)) is
         ∙ ap (λ (o : Result (List SolvedPart) MakeFault). if_solved makes (solved_with method.moves drawn o)) i
 
     by_fault : (f : MakeFault) → HasCause (solve_outcome (plan_of choices method) (untangled_problem drawn.problem)) f
         → HasCause (if_solved makes (solved_of choices method outcome)) f
     by_fault fault.NoMemory i = tt
-    by_fault (fault.NoRoute seg) i = refused (fault.NoRoute seg) i
-    by_fault (fault.Spent component branches) i = refused (fault.Spent component branches) i
-    by_fault (fault.Limit limit) i = refused (fault.Limit limit) i
+    by_fault f i = refused f i
 
 -- no moves are added: the map is the one that is made
 pub made_of_none : (subject : Subject) (o : Result SolvedMap MakeFault) (improved : ImprovedBytes)
@@ -165,9 +158,7 @@ none_of_none subject o e h = by_fault e h
     by_fault : (f : MakeFault) → HasCause (if_solved (improved_map subject 0) o) f
         → HasCause (if_solved (solved_map subject) o) f
     by_fault fault.NoMemory i = tt
-    by_fault (fault.NoRoute seg) i = by_solved o (fault.NoRoute seg) i
-    by_fault (fault.Spent component branches) i = by_solved o (fault.Spent component branches) i
-    by_fault (fault.Limit limit) i = by_solved o (fault.Limit limit) i
+    by_fault f i = by_solved o f i
 
 -- moves that follow the routes are those that are added to a drawing without moves
 pub made_alike : (subject : Subject) (choices : Choices) (method : MethodChoices) (outcome : Result Drawn MakeFault)

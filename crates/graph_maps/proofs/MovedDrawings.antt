@@ -20,8 +20,7 @@ use Rattle.graph_maps.specs.Wholes.{IsWhole}
 
 -- a drawing that was moved twice is whole where it was before
 pub whole_moved : (plan : SearchPlan) (importance : List ℕ) (choices : Choices) (drawn : Drawn)
-    (parts : List SolvedPart)
-    (first moves : ℕ) → IsWhole plan importance choices drawn parts
+    (parts : List SolvedPart) (first moves : ℕ) → IsWhole plan importance choices drawn parts
     → IsDrawing drawn.graph (after_moves moves (after_moves first drawn)).walks
     → IsWhole plan importance choices (after_moves moves (after_moves first drawn)) parts
 whole_moved plan importance choices drawn parts first moves whole drawing = record {
@@ -38,8 +37,7 @@ whole_moved plan importance choices drawn parts first moves whole drawing = reco
 -- a drawing that was moved twice and then written
 pub written_by : (subject : Subject) (graph : GraphParts) (walks : List PlainWalk) (best : BestOrders) (first moves : ℕ)
     (once twice : Drawing × Improvement) (map : Made) → IsMoved first graph walks once
-    → IsMoved moves graph once.0.walks twice
-    → bytes_of map ≡ map_by subject graph twice.0.walks best
+    → IsMoved moves graph once.0.walks twice → bytes_of map ≡ map_by subject graph twice.0.walks best
     → IsWritten subject graph walks best first moves (record { map = map; improvement = twice.1 })
 written_by subject graph walks best first moves once twice map one two made =
     let start : List PlainWalk = walks_after first graph walks in

@@ -37,8 +37,7 @@ all_taken plan p k (part ∷ parts) done h =
     by_found : (o : Result PartResult SearchFault) → part_outcome plan p part ≡ o
         → solved_first k part o (solve_from plan p (k + 1) parts) ≡ Ok done
         → ((later : List SolvedPart) → solve_from plan p (k + 1) parts ≡ Ok later
-        → take_while (is_solvable plan p) parts ≡ parts)
-        → take_while (is_solvable plan p) (part ∷ parts) ≡ part ∷ parts
+        → take_while (is_solvable plan p) parts ≡ parts) → take_while (is_solvable plan p) (part ∷ parts) ≡ part ∷ parts
     by_found (Ok r) is e more =
         let rest = rest_solved (solved part r) (solve_from plan p (k + 1) parts) done e in
         take_while-cons (is_solvable plan p) part parts
@@ -59,24 +58,21 @@ none_to_meet plan held p (part ∷ parts) there =
 none_missing : (plan : SearchPlan) (held : List HeldPart) (p : ProblemParts) (done : List SolvedPart)
     → solve_outcome plan p ≡ Ok done → All (Contains held) (finished_of plan p)
     → sum_by (branches_to_meet held plan p) (parts_in p) ≡ 0
-none_missing plan held p done h there =
-    none_to_meet plan held p (parts_in p)
+none_missing plan held p done h there = none_to_meet plan held p (parts_in p)
     (recursion_from_All (Contains held) (map (held_as plan p) (parts_in p))
     (subst (λ (parts : List (List SegId)). All (Contains held) (map (held_as plan p) parts))
     (all_taken plan p 0 (parts_in p) done h) there))
 
 -- where a map is made of a drawing, its parts are solved
 parts_solved : (subject : Subject) (moves : ℕ) (drawn : Drawn) (outcome : Result (List SolvedPart) MakeFault)
-    (made : MapBytes)
-    → if_solved (solved_map subject) (solved_with moves drawn outcome) ≡ Ok made
+    (made : MapBytes) → if_solved (solved_map subject) (solved_with moves drawn outcome) ≡ Ok made
     → (done : List SolvedPart) × (outcome ≡ Ok done)
 parts_solved subject moves drawn (Ok done) made h = (done, refl)
 parts_solved subject moves drawn (Err stop) made h = absurd cc
 
 -- where a map is made of what is drawn and each part that it finishes is held, no branch node is left
 pub none_left : (subject : Subject) (choices : Choices) (method : MethodChoices) (drawn : Result Drawn MakeFault)
-    (made : MapBytes) (held : List HeldPart)
-    → if_solved (solved_map subject) (solved_of choices method drawn) ≡ Ok made
+    (made : MapBytes) (held : List HeldPart) → if_solved (solved_map subject) (solved_of choices method drawn) ≡ Ok made
     → All (Contains held) (finished_in (plan_of choices method) drawn)
     → missing_branches held (plan_of choices method) drawn ≡ 0
 none_left subject choices method (Err stop) made held h there = refl

@@ -61,8 +61,7 @@ inside (s ∷ part) (order ∷ lists) some others u each h below within =
         put_on some same below ∙ sym (put_on others same within)
     by_test false e i rest =
         let other : u.0 ≢ s.0 = λ (same : u.0 ≡ s.0). true≢false (sym (eq-eqb s.0 u.0 (sym same)) ∙ e) in
-        get_or-set_other (with_lists part lists some) s.0 u.0 order [] other
-        ∙ rest i
+        get_or-set_other (with_lists part lists some) s.0 u.0 order [] other ∙ rest i
         ∙ sym (get_or-set_other (with_lists part lists others) s.0 u.0 order [] other)
 
 abbrev pub segs_of : SolvedPart → List SegId
@@ -92,13 +91,11 @@ targets_are segs terms [] orders same apart worth = refl
 targets_are segs terms (s ∷ parts) orders same apart worth =
     let final : List (List LineId) = with_parts (s ∷ parts) orders in
     let rest = targets_are segs terms parts (with_lists s.segs s.lists orders) (length-with_lists s.segs s.lists orders ∙ same) apart.1 worth.1 in
-    let here : part_cost terms final s.segs ≡ s.target =
-    same_cost s.segs terms final (with_lists s.segs s.lists segs)
+    let here : part_cost terms final s.segs ≡ s.target = same_cost s.segs terms final (with_lists s.segs s.lists segs)
     (λ u i.
     let below : u.0 < length segs = All-contains (λ (v : SegId). v.0 < length segs) s.segs u worth.0.known (contains_in s.segs u i) in
     all_away parts (with_lists s.segs s.lists orders) u (none_has s.segs parts u apart.0 i)
-    ∙ inside s.segs s.lists orders segs u worth.0.each i (omega (arith, below, same)) below)
-    ∙ worth.0.costs in
+    ∙ inside s.segs s.lists orders segs u worth.0.each i (omega (arith, below, same)) below) ∙ worth.0.costs in
     omega (arith, rest, here, sum_by-cons (part_cost terms final) s.segs (map segs_of parts), sum_by-cons (λ (t : SolvedPart). t.target) s parts)
 
 -- All parts of a problem that are solved in turn.
@@ -113,8 +110,7 @@ solved_segs plan p k (part ∷ parts) done h =
   where
     by : (o : Result PartResult SearchFault) (rest : Result (List SolvedPart) MakeFault)
         → solved_first k part o rest ≡ Ok done
-        → ((later : List SolvedPart) → rest ≡ Ok later → map segs_of later ≡ parts)
-        → map segs_of done ≡ part ∷ parts
+        → ((later : List SolvedPart) → rest ≡ Ok later → map segs_of later ≡ parts) → map segs_of done ≡ part ∷ parts
     by (Ok r) (Ok later) e more =
         let same : solved part r ∷ later ≡ done = cc in
         ap (map segs_of) (sym same) ∙ ap (λ (ps : List (List SegId)). part ∷ ps) (more later refl)

@@ -1,8 +1,9 @@
 -- The check says yes to a drawing with its solved parts.
-use Rattle.std.proofs.Common.{◌≡◌, ◌∙◌, ap, sym, subst, refl, ℕ, zero, suc, ◌+◌, ◌<◌, ◌==◌, ◌&&◌, Bool, true, cond, List, [], ◌∷◌, length, map, get_or, option_map, arith, eq-eqb, Option, Some, None, Result, Ok}
+use Rattle.std.proofs.Common.{◌≡◌, ◌∙◌, ap, sym, subst, refl, ℕ, ◌+◌, ◌==◌, ◌&&◌, Bool, true, cond, List, [], ◌∷◌, length, map, get_or, option_map, arith, eq-eqb, Option, Some, None, Result, Ok}
 use Rattle.std.specs.List.{All, list_all}
 use Rattle.std.specs.List.Sorted.{IsPermutation}
 use Rattle.std.proofs.lemmas.Bool.{and_from}
+use Rattle.std.proofs.lemmas.List.{get_or_default}
 use Rattle.std.proofs.lemmas.List.Sorted.{length_permutation, All-permutation}
 use Rattle.std.proofs.lemmas.List.Elements.{All-head, All-tail}
 use Rattle.map_base.specs.declared.ids.SegId.{SegId}
@@ -40,12 +41,12 @@ use Rattle.graph_maps.proofs.DrawingLemmas.{problem_there}
 use Rattle.graph_maps.proofs.ItemLemmas.{has_at}
 use Rattle.graph_maps.proofs.PartOrders.{segs_of, segs_are, target_sum, bound_is, cost_is}
 use Rattle.graph_maps.proofs.UntangledLemmas.{untangled_fits, lifted_are, lifted_cost, bound_kept}
+use Rattle.graph_maps.proofs.Shown.{certified_shows}
 use Rattle.graph_maps.proofs.Accepting.{bound_none, targets_are, verdict_none}
 
 same_pairs : (pairs : List (LineId × ℕ)) → are_same_pairs pairs pairs ≡ true
 same_pairs [] = refl
-same_pairs (p ∷ pairs) =
-    and_from (p.0.0 == p.0.0 && p.1 == p.1) (are_same_pairs pairs pairs)
+same_pairs (p ∷ pairs) = and_from (p.0.0 == p.0.0 && p.1 == p.1) (are_same_pairs pairs pairs)
     (and_from (p.0.0 == p.0.0) (p.1 == p.1) (eq-eqb p.0.0 p.0.0 refl) (eq-eqb p.1 p.1 refl)) (same_pairs pairs)
 
 same_bytes : (bytes : List ℕ) → first_difference bytes bytes ≡ None
@@ -65,16 +66,10 @@ all_pass test (a ∷ lines) all =
 
 own_lines : (lines : List LineId) → All (λ (a : LineId). has_line lines a ≡ true) lines
 own_lines lines k d below = has_at lines k (get_or lines k d) below
-    (ap (λ (a : LineId). a.0) (same_default lines k d (get_or lines k d) below))
-  where
-    same_default : (ls : List LineId) (i : ℕ) (x y : LineId) → i < length ls → get_or ls i y ≡ get_or ls i x
-    same_default [] i x y h = absurd (omega (arith, h))
-    same_default (a ∷ ls) zero x y h = refl
-    same_default (a ∷ ls) (suc i) x y h = same_default ls i x y (omega (arith, h))
+    (ap (λ (a : LineId). a.0) (get_or_default lines k (get_or lines k d) d below))
 
 is_order_of : (lines order : List LineId) → IsPermutation lines order → is_order lines order ≡ true
-is_order_of lines order moved =
-    and_from (length order == length lines) (list_all (has_line lines) order)
+is_order_of lines order moved = and_from (length order == length lines) (list_all (has_line lines) order)
     (eq-eqb (length order) (length lines) (length_permutation lines order moved))
     (all_pass (has_line lines) order (All-permutation (λ (a : LineId). has_line lines a ≡ true) lines order moved
     (own_lines lines)))
@@ -124,15 +119,13 @@ module _ (plan : SearchPlan) (subject : Subject) (choices : Choices) (drawn : Dr
   segs = segs_are plan u parts whole.solved
 
   pub ordered : AreOrders drawn.graph.lines orders
-  ordered =
-      subst (λ (lists : List (List LineId)). AreOrders lists orders)
+  ordered = subst (λ (lists : List (List LineId)). AreOrders lists orders)
       (segs_same plan subject.importance choices drawn parts whole)
       (lifted_are p whole.fits (orders_by u parts) whole.ordered)
 
   -- the bound is what the targets sum to
   bound : IsLowerBound p.segs p.terms (proved_by c).bound
-  bound =
-      subst (IsLowerBound p.segs p.terms) (sym (targets_are parts))
+  bound = subst (IsLowerBound p.segs p.terms) (sym (targets_are parts))
       (bound_kept p whole.fits (target_sum parts) (bound_is plan u fits parts segs whole.shown))
 
   best_cost : plan.claim ≡ Best → cost_of p.terms orders ≡ target_sum parts
@@ -155,13 +148,8 @@ module _ (plan : SearchPlan) (subject : Subject) (choices : Choices) (drawn : Dr
   }
 
   pub shows_graph : ShowsGraph subject choices plan.claim drawn.graph (map_of subject drawn parts).svg (proved_by c)
-  shows_graph = record {
-    walks = drawn.walks;
-    orders = orders;
-    shown = shows_certified.shown;
-    bounded = shows_certified.bounded;
-    claimed = shows_certified.claimed;
-  }
+  shows_graph = certified_shows subject choices plan.claim drawn.graph c (map_of subject drawn parts).svg (proved_by c)
+      shows_certified
 
   -- no item of its proof is refused
   proof_holds : (claim : Claim) → plan.claim ≡ claim → proof_item claim p c.orders c.proof ≡ None
@@ -209,8 +197,7 @@ pub whole_is : (importance : List ℕ) (choices : Choices) (method : MethodChoic
     (best : BestOrders) (parts : List SolvedPart)
     → drawn_on importance choices method graph ≡ Ok drawn → length drawn.walks ≡ length drawn.graph.ends
     → legal drawn.graph drawn.walks ≡ true → drawn.problem ≡ problem_of importance choices drawn.graph
-    → IsProblem drawn.problem
-    → solve_outcome (plan_of choices method) (untangled_problem drawn.problem) ≡ Ok parts
+    → IsProblem drawn.problem → solve_outcome (plan_of choices method) (untangled_problem drawn.problem) ≡ Ok parts
     → AreBestBy (plan_of choices method) drawn.problem parts best
     → IsWhole (plan_of choices method) importance choices drawn parts
 whole_is importance choices method graph drawn best parts is each is_legal defined fits is_solved found = record {

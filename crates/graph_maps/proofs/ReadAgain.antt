@@ -62,13 +62,9 @@ mutual
 
   tree_read : (tree : PlainTree) (room : ℕ) (rest : List ℕ) → IsTreeInRange tree → depth_of tree ≤ room → tree_at room (tree_text tree ++ rest) ≡ Some (tree, rest)
   tree_read (close prices) zero rest range deep =
-      let line = close_read prices rest range in
-      let said = prices_again most_price 0 prices range in
-      rw (line, said)
+      rw (close_read prices rest range, prices_again most_price 0 prices range)
   tree_read (close prices) (suc room) rest range deep =
-      let line = close_read prices rest range in
-      let said = prices_again most_price 0 prices range in
-      rw (line, said)
+      rw (close_read prices rest range, prices_again most_price 0 prices range)
   tree_read (split e cases) zero rest range deep = absurd (omega arith)
   tree_read (split e cases) (suc room) rest range deep =
       let under = cases_text cases ++ rest in
@@ -106,13 +102,9 @@ fork_said e a b known first second =
 dual_read : (tree : PlainDual) (room : ℕ) (rest : List ℕ) → IsDualInRange tree → fork_depth tree ≤ room → dual_at room (dual_text tree ++ rest) ≡ Some (tree, rest)
 unfolding dual_at
 dual_read (stop prices) zero rest range deep =
-    let line = stop_read prices rest range in
-    let said = prices_again most_stop_price 0 prices range in
-    rw (line, said)
+    rw (stop_read prices rest range, prices_again most_stop_price 0 prices range)
 dual_read (stop prices) (suc room) rest range deep =
-    let line = stop_read prices rest range in
-    let said = prices_again most_stop_price 0 prices range in
-    rw (line, said)
+    rw (stop_read prices rest range, prices_again most_stop_price 0 prices range)
 dual_read (fork e a b first second) zero rest range deep = absurd (omega arith)
 dual_read (fork e a b first second) (suc room) rest range deep =
     let behind = dual_text second ++ rest in
@@ -127,14 +119,8 @@ dual_read (fork e a b first second) (suc room) rest range deep =
     rw (grouped, line, said, one, two)
 
 part_tree_read : (tree : PlainPartTree) (rest : List ℕ) → IsPartTreeInRange tree → depth_of_part tree ≤ most_depth → part_tree_at (part_tree_text tree ++ rest) ≡ Some (tree, rest)
-part_tree_read (by_cases tree) rest range deep =
-    let kind = tree_begins tree rest in
-    let read = tree_read tree most_depth rest range deep in
-    rw (kind, read)
-part_tree_read (by_pairs tree) rest range deep =
-    let kind = dual_begins tree rest in
-    let read = dual_read tree most_depth rest range deep in
-    rw (kind, read)
+part_tree_read (by_cases tree) rest range deep = rw (tree_begins tree rest, tree_read tree most_depth rest range deep)
+part_tree_read (by_pairs tree) rest range deep = rw (dual_begins tree rest, dual_read tree most_depth rest range deep)
 
 rules_read : (rules : List Rule) (k : ℕ) (rest : List ℕ) → AllByRecursion IsRuleInRange rules → all_at (λ (i : ℕ). proof_front rule_in) k (length rules) (rules_text rules ++ rest) ≡ Some (rules, rest)
 rules_read [] k rest range = refl
@@ -233,8 +219,7 @@ certificate_read c range =
 
 pub text_read : (c : PlainCertificate) (bytes : List ℕ) → IsTextOf c bytes → certificate_in bytes ≡ Ok c
 unfolding certificate_in
-text_read c bytes is =
-    ap certificate_in is.text
+text_read c bytes is = ap certificate_in is.text
     ∙ ap (λ (r : Result ℕ ℕ). unless_wrong r (certificate_at (certificate_text c))) (whole_again c is.range)
     ∙ ap (unless_wrong (Ok (length (certificate_text c)))) (certificate_read c is.range)
 

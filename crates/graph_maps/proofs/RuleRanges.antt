@@ -1,9 +1,9 @@
 -- Rules that apply are in range, and the lines of segments stay in range.
-use Rattle.std.proofs.Common.{◌≡◌, ℕ, suc, ◌≤◌, ◌==◌, Bool, true, false, not, cond, ◌||◌, List, [], ◌∷◌, refl, arith, eq-eqb}
+use Rattle.std.proofs.Common.{◌≡◌, ℕ, suc, ◌≤◌, ◌==◌, true, not, List, [], ◌∷◌, refl, arith, eq-eqb}
 use Rattle.std.specs.Prelude.{slice_set}
-use Rattle.std.specs.List.{All, AllByRecursion, filter}
-use Rattle.std.proofs.lemmas.Bool.{or_left}
-use Rattle.std.proofs.lemmas.List.Elements.{All-contains, All-from_recursion, All-get_or, All-nil, All-push, All-set, recursion_from_All}
+use Rattle.std.specs.List.{All, AllByRecursion}
+use Rattle.std.proofs.lemmas.Bool.{or_left, or_right}
+use Rattle.std.proofs.lemmas.List.Elements.{All-contains, All-filter, All-from_recursion, All-get_or, All-nil, All-push, All-set}
 use Rattle.map_base.specs.declared.ids.LineId.{LineId}
 use Rattle.graph_core.specs.Consistent.{AreRising}
 use Rattle.order_values.specs.declared.rule.Rule.{Rule}
@@ -11,6 +11,7 @@ use Rattle.order_values.specs.declared.rule.Rule.TheVariants.{Merge, Divide}
 use Rattle.order_model.specs.declared.problem.ProblemParts.{ProblemParts}
 use Rattle.order_model.specs.Problems.{lines_on, IsProblem}
 use Rattle.order_model.specs.Places.{has_line}
+use Rattle.order_model.proofs.PrefixLemmas.{contains_placed}
 use Rattle.order_proof.specs.Forms.{most_id}
 use Rattle.order_proof.specs.Ranges.{AreRisingLines, IsRuleInRange}
 use Rattle.order_rules.specs.Dividing.{others}
@@ -18,28 +19,15 @@ use Rattle.order_rules.specs.Untangling.{rule_applies, after_rule, after_rules, 
 use Rattle.order_rules.proofs.DivideRule.{divides}
 use Rattle.order_rules.proofs.MergeRule.{merges}
 use Rattle.order_rules.proofs.RuleLaws.{keeps}
-use Rattle.graph_maps.proofs.TreeRanges.{line_there}
-
--- what each passes, each that a test keeps passes
-pub all_filtered : {A : Type 0} (P : A → Type 0) (test : A → Bool) (xs : List A) → AllByRecursion P xs → AllByRecursion P (filter test xs)
-all_filtered P test [] all = tt
-all_filtered P test (x ∷ xs) all = by_test (test x) (all_filtered P test xs all.1)
-  where
-    by_test : (b : Bool) → AllByRecursion P (filter test xs) → AllByRecursion P (cond b (x ∷ filter test xs) (filter test xs))
-    by_test true rest = (all.0, rest)
-    by_test false rest = rest
+use Rattle.graph_maps.proofs.TreeRanges.{starts_at_0, StartsAt}
 
 -- each line of a list is one that the list has
 each_own : (Q : LineId → Type 0) (xs : List LineId) → ((a : LineId) → has_line xs a ≡ true → Q a) → AllByRecursion Q xs
 each_own Q [] h = tt
 each_own Q (x ∷ xs) h = (
   h x (or_left (x.0 == x.0) (has_line xs x) (eq-eqb x.0 x.0 refl)),
-  each_own Q xs (λ a k. h a (or_later (x.0 == a.0) (has_line xs a) k)),
+  each_own Q xs (λ a k. h a (or_right (x.0 == a.0) (has_line xs a) k)),
 )
-  where
-    or_later : (s t : Bool) → t ≡ true → (s || t) ≡ true
-    or_later true t k = refl
-    or_later false t k = k
 
 -- what all lines of segments are, all are after a rule
 kept_lines : (Q : LineId → Type 0) (p : ProblemParts) (r : Rule) → IsProblem p → rule_applies p r ≡ true → All (All Q) p.segs → All (All Q) (after_rule p r).segs
@@ -48,25 +36,16 @@ kept_lines Q p (Divide seg first) is h all =
     let ok = divides p seg first is h in
     let lines : List LineId = lines_on p.segs seg in
     let own : All Q lines = All-get_or (All Q) p.segs seg.0 [] ok.known all in
-    let group : All Q first = All-from_recursion Q first (each_own Q first (λ a k. All-contains Q lines a own (line_there lines a (ok.within a k)))) in
-    let rest : All Q (others lines first) =
-    All-from_recursion Q (others lines first) (all_filtered Q (λ b. not (has_line first b)) lines (recursion_from_All Q lines own)) in
+    let group : All Q first = All-from_recursion Q first (each_own Q first (λ a k. All-contains Q lines a own (contains_placed lines a (ok.within a k)))) in
+    let rest : All Q (others lines first) = All-filter (λ (b : LineId). not (has_line first b)) Q lines own in
     All-push (All Q) (slice_set p.segs seg.0 first) (others lines first) (All-set (All Q) p.segs seg.0 first group all) rest
 
 pub lines_kept : (Q : LineId → Type 0) (p : ProblemParts) (rules : List Rule) → IsProblem p → ApplyInTurn p rules → All (All Q) p.segs → All (All Q) (after_rules p rules).segs
 lines_kept Q p [] is apply all = all
 lines_kept Q p (r ∷ rules) is apply all = lines_kept Q (after_rule p r) rules (keeps p r is apply.0).problem apply.1 (kept_lines Q p r is apply.0 all)
 
--- the first line is at least so much
-abbrev StartsAt : ℕ → List LineId → Type 0
-StartsAt least [] = Unit {0}
-StartsAt least (a ∷ rest) = least ≤ a.0
-
-starts_at_0 : (lines : List LineId) → StartsAt 0 lines
-starts_at_0 [] = tt
-starts_at_0 (a ∷ rest) = omega arith
-
-rising_lines : (least : ℕ) (lines : List LineId) → AreRising lines → AllByRecursion (λ (a : LineId). a.0 ≤ most_id) lines → StartsAt least lines → AreRisingLines least lines
+rising_lines : (least : ℕ) (lines : List LineId) → AreRising lines → AllByRecursion (λ (a : LineId). a.0 ≤ most_id) lines
+    → StartsAt (λ (a : LineId). a.0) least lines → AreRisingLines least lines
 rising_lines least [] rising range from = tt
 rising_lines least (a ∷ []) rising range from = (from, range.0, tt)
 rising_lines least (a ∷ b ∷ rest) rising range from = (from, range.0, rising_lines (suc a.0) (b ∷ rest) rising.1 range.1 (omega (arith, rising.0)))
@@ -83,8 +62,8 @@ rule_range p (Divide seg first) is h all =
     let ok = divides p seg first is h in
     let lines : List LineId = lines_on p.segs seg in
     let own : All IsLineInRange lines = All-get_or (All IsLineInRange) p.segs seg.0 [] ok.known all in
-    let group = each_own IsLineInRange first (λ a k. All-contains IsLineInRange lines a own (line_there lines a (ok.within a k))) in
-    (omega (arith, ok.known, is.few_choices), rising_lines 0 first ok.group_rising group (starts_at_0 first))
+    let group = each_own IsLineInRange first (λ a k. All-contains IsLineInRange lines a own (contains_placed lines a (ok.within a k))) in
+    (omega (arith, ok.known, is.few_choices), rising_lines 0 first ok.group_rising group (starts_at_0 (λ (a : LineId). a.0) first))
 
 pub rules_range : (p : ProblemParts) (rules : List Rule) → IsProblem p → ApplyInTurn p rules → All (All IsLineInRange) p.segs → AllByRecursion IsRuleInRange rules
 rules_range p [] is apply all = tt

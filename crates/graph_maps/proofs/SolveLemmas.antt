@@ -5,6 +5,7 @@ use Rattle.std.specs.List.{AllByRecursion}
 use Rattle.std.specs.Global.{Global}
 use Rattle.std.proofs.lemmas.List.{at_drop_more, at_drop_all, map-append, get_or_default, get_or-take, length-take-le, take-take}
 use Rattle.std.proofs.lemmas.List.Sums.{sum_by_more}
+use Rattle.std.proofs.lemmas.Option.{same_Some}
 use Rattle.map_base.specs.declared.ids.SegId.{SegId}
 use Rattle.map_base.specs.declared.ids.LineId.{LineId}
 use Rattle.map_base.specs.declared.limit.LimitKind.TheVariants.{Places}
@@ -31,8 +32,7 @@ use Rattle.kept_trees.specs.Results.{PartResult, by_live, is_dual, dual_part, du
 use Rattle.map_faults.specs.declared.fault.MakeFault.{MakeFault}
 use Rattle.map_faults.specs.declared.fault.MakeFault.TheVariants as fault
 use Rattle.graph_maps.specs.declared.solution.Solution.{Solution}
-use Rattle.graph_maps.specs.Solving.{of_search}
-use Rattle.graph_maps.specs.Solving.{SolvedPart, solved, solved_first, with_solved, with_parts, solve_from, solve_outcome, parts_in}
+use Rattle.graph_maps.specs.Solving.{of_search, SolvedPart, solved, solved_first, with_solved, with_parts, solve_from, solve_outcome, parts_in}
 use Rattle.graph_maps.specs.Certificates.{proof_part}
 use Rattle.graph_maps.specs.Making.{HasCause}
 use Rattle.graph_maps.specs.Stages.{prepended, CostClaimed, IsShown, IsSolution, IsMore, IsUnsolved, AreSolved, HaveProofTrees}
@@ -65,8 +65,7 @@ shown-more plan p (d ∷ done) s all here = (all.0, shown-more plan p done s all
 -- what comes of the parts from k on
 parts_at : (plan : SearchPlan) (p : ProblemParts) (k : ℕ) (part : List SegId) → k < length (parts_in p) → part ≡ get_or (parts_in p) k part
     → solve_from plan p k (drop k (parts_in p)) ≡ solve_from plan p k (part ∷ drop (k + 1) (parts_in p))
-parts_at plan p k part below is =
-    at_drop_more (solve_from plan p k) (parts_in p) k part below
+parts_at plan p k part below is = at_drop_more (solve_from plan p k) (parts_in p) k part below
     ∙ ap (λ (q : List SegId). solve_from plan p k (q ∷ drop (k + 1) (parts_in p))) (sym is)
 
 pub none_solved : (plan : SearchPlan) (p : ProblemParts) (s : Solution) → s.orders.items ≡ p.segs → s.parts.items ≡ [] → AreSolved plan p 0 s
@@ -83,8 +82,7 @@ pub one_solved : (plan : SearchPlan) (p : ProblemParts) (k : ℕ) (part : List S
     → IsMore plan p part before after → AreSolved plan p k before → AreSolved plan p (k + 1) after
 one_solved plan p k part before after below is more so_far = record {
   done = so_far.done ++ s ∷ [];
-  ahead = so_far.ahead
-      ∙ ap (prepended so_far.done) (parts_at plan p k part below is
+  ahead = so_far.ahead ∙ ap (prepended so_far.done) (parts_at plan p k part below is
       ∙ ap (λ (o : Result PartResult SearchFault). solved_first k part o rest) more.outcome)
       ∙ sym (prepended-more so_far.done s rest);
   solution = record {
@@ -121,17 +119,12 @@ unsolved_ends plan p k part before e below is why so_far = by_fault e why
 
     ends : (f : MakeFault) → solved_first k part (part_outcome plan p part) (Ok []) ≡ Err f
         → solve_outcome plan p ≡ Err f
-    ends f w =
-        so_far.ahead
-        ∙ ap (prepended so_far.done) (parts_at plan p k part below is
-        ∙ refused_first k part (part_outcome plan p part) rest f w)
-        ∙ prepended-err so_far.done f
+    ends f w = so_far.ahead ∙ ap (prepended so_far.done) (parts_at plan p k part below is
+        ∙ refused_first k part (part_outcome plan p part) rest f w) ∙ prepended-err so_far.done f
 
     by_fault : (f : MakeFault) → IsUnsolved plan p k part f → HasCause (solve_outcome plan p) f
     by_fault fault.NoMemory w = tt
-    by_fault (fault.NoRoute seg) w = ends (fault.NoRoute seg) w
-    by_fault (fault.Spent component branches) w = ends (fault.Spent component branches) w
-    by_fault (fault.Limit limit) w = ends (fault.Limit limit) w
+    by_fault f w = ends f w
 
 -- all parts
 pub all_solved : (plan : SearchPlan) (p : ProblemParts) (k : ℕ) (s : Solution) → length (parts_in p) ≤ k → AreSolved plan p k s
@@ -167,8 +160,7 @@ accepted_is q (by_pairs tree) h = h
 -- what a live search finds is complete
 live_complete : (budget : ℕ) (p : ProblemParts) (part : List SegId) (r : PartResult)
     → live_outcome budget p part ≡ Ok r → r.complete ≡ true
-live_complete budget p part r h =
-    by_test (is_within Places (places_of p.segs part)) (nat_le grown.branches budget) h
+live_complete budget p part r h = by_test (is_within Places (places_of p.segs part)) (nat_le grown.branches budget) h
   where
     grown : PartResult
     grown = by_live (live_tree (part_in p part))
@@ -196,11 +188,9 @@ best_complete plan p part r h claims = by_test (is_dual plan.search p part) h
     own : PartResult
     own = dual_part plan.budget p part
 
-    by_test : (b : Bool)
-        → cond b (dual_outcome plan.claim plan.budget own) (live_outcome plan.budget p part) ≡ Ok r
+    by_test : (b : Bool) → cond b (dual_outcome plan.claim plan.budget own) (live_outcome plan.budget p part) ≡ Ok r
         → r.complete ≡ true
-    by_test true e =
-        dual_complete plan.budget own r
+    by_test true e = dual_complete plan.budget own r
         (subst (λ (claim : Claim). dual_outcome claim plan.budget own ≡ Ok r) claims e)
     by_test false e = live_complete plan.budget p part r e
 
@@ -215,8 +205,7 @@ part_of part target tree = record { segs = part; target = target; tree = tree }
 
 -- a part that was found is solved
 pub found_more : (plan : SearchPlan) (p : ProblemParts) (part : List SegId) (f : FoundPart) (before after : Solution)
-    → IsResult plan p part f
-    → after.orders.items ≡ with_lists part f.orders.lists before.orders.items
+    → IsResult plan p part f → after.orders.items ≡ with_lists part f.orders.lists before.orders.items
     → after.parts.items ≡ before.parts.items ++ record { segs = part; target = f.target; tree = f.tree } ∷ []
     → IsMore plan p part before after
 found_more plan p part f before after found orders parts = record {
@@ -241,17 +230,13 @@ found_more plan p part f before after found orders parts = record {
 pub not_found : (plan : SearchPlan) (p : ProblemParts) (k : ℕ) (part : List SegId) (stop : SearchFault)
     → IsFaultOf (part_outcome plan p part) stop → IsUnsolved plan p k part (of_search k stop)
 not_found plan p k part search.NoMemory h = tt
-not_found plan p k part (search.TooDeep limit) h =
-    ap (λ (o : Result PartResult SearchFault). solved_first k part o (Ok [])) h
-not_found plan p k part (search.Spent n) h =
-    ap (λ (o : Result PartResult SearchFault). solved_first k part o (Ok [])) h
+not_found plan p k part stop h = ap (λ (o : Result PartResult SearchFault). solved_first k part o (Ok [])) h
 
 -- the orders of one segment more
 pub put_more : (part : List SegId) (lists orders before after : List (List LineId)) (i j : ℕ) (d : SegId) (order : List LineId) → i ≡ j + 1 → j < length part → j < length lists
     → order ≡ get_or lists j order → before ≡ with_lists (drop i part) (drop i lists) orders → after ≡ set before (get_or part j d).0 order
     → after ≡ with_lists (drop j part) (drop j lists) orders
-put_more part lists orders before after i j d order next below within order_is so_far step =
-    step
+put_more part lists orders before after i j d order next below within order_is so_far step = step
     ∙ ap (λ (os : List (List LineId)). set os (get_or part j d).0 order) (so_far ∙ ap (λ (n : ℕ). with_lists (drop n part) (drop n lists) orders) next)
     ∙ sym (at_drop_more (λ (rest : List SegId). with_lists rest (drop j lists) orders) part j d below
     ∙ at_drop_more (λ (rest : List (List LineId)). with_lists (get_or part j d ∷ drop (j + 1) part) rest orders) lists j order within
@@ -263,12 +248,8 @@ pub popped : (lists held rest : List (List LineId)) (i count : ℕ) (order : Lis
     → (order ≡ get_or lists (i - 1) order) × (rest ≡ take (i - 1) lists)
 popped lists held rest i count order is counted some few last left =
     let each : count ≡ i = counted ∙ ap length is ∙ length-take-le i lists few in (
-      some_same last
-          ∙ ap (λ (n : ℕ). get_or held (n - 1) order) each
+      same_Some order (get_or held (count - 1) order) last ∙ ap (λ (n : ℕ). get_or held (n - 1) order) each
           ∙ ap (λ (ls : List (List LineId)). get_or ls (i - 1) order) is
           ∙ get_or-take i lists (i - 1) order (omega (arith, some)),
       left ∙ ap (λ (n : ℕ). take (n - 1) held) each ∙ ap (take (i - 1)) is ∙ take-take (i - 1) i lists (omega arith),
     )
-  where
-    some_same : {x y : List LineId} → Some x ≡ Some y → x ≡ y
-    some_same e = cc

@@ -1,13 +1,14 @@
 -- A tree that is accepted, and that a proof may have, is in range.
-use Rattle.std.proofs.Common.{◌≡◌, ◌≢◌, sym, subst, refl, ℕ, zero, suc, ◌*◌, ◌≤◌, ◌==◌, ◌&&◌, ◌||◌, not, nat_lt, nat_le, Bool, true, false, true≢false, cond, ℤ, pos, negsuc, List, [], ◌∷◌, length, arith, eqb-true, leb-true, ◌⊎◌, inl, inr, Some, None, All}
+use Rattle.std.proofs.Common.{◌≡◌, ◌≢◌, sym, refl, ℕ, zero, suc, ◌*◌, ◌≤◌, ◌==◌, ◌&&◌, ◌||◌, not, nat_lt, nat_le, Bool, true, false, true≢false, cond, ℤ, pos, negsuc, List, [], ◌∷◌, length, arith, eqb-true, leb-true, Some, None, All}
 use Rattle.std.specs.Prelude.{unsigned_abs}
 use Rattle.std.specs.List.{AllByRecursion, Contains, list_all, list_any}
-use Rattle.std.proofs.lemmas.Bool.{and_parts, or_cases}
-use Rattle.std.proofs.lemmas.List.Elements.{All-from_recursion}
+use Rattle.std.proofs.lemmas.Bool.{and_parts}
+use Rattle.std.proofs.lemmas.List.Elements.{All-contains, All-from_recursion, All-weaker}
+use Rattle.std.proofs.lemmas.List.Folds.{Any-from_list_any}
 use Rattle.map_base.specs.declared.ids.SegId.{SegId}
 use Rattle.map_base.specs.declared.ids.LineId.{LineId}
 use Rattle.order_model.specs.declared.term.Term.{Term}
-use Rattle.order_model.specs.declared.term.Term.TheVariants.{Side, Link, Apart}
+use Rattle.order_model.specs.declared.term.Term.TheVariants.{Side, Link}
 use Rattle.order_model.specs.Problems.{lines_on}
 use Rattle.order_model.specs.Costs.{weight_of}
 use Rattle.order_model.specs.Places.{has_line}
@@ -15,9 +16,7 @@ use Rattle.order_model.specs.Looks.{is_decided}
 use Rattle.order_model.specs.PartTerms.{is_in}
 use Rattle.order_model.specs.Prefixes.{none_placed, is_left, is_placed, is_unplaced, AreApart}
 use Rattle.order_model.specs.Completions.{placed_more}
-use Rattle.order_model.proofs.Lines.{same_line}
-use Rattle.order_model.proofs.PrefixLemmas.{few_apart}
-use Rattle.order_model.proofs.RisingLines.{contains_first, contains_later}
+use Rattle.order_model.proofs.PrefixLemmas.{contains_placed, few_apart}
 use Rattle.order_values.specs.PriceLists.{AreRisingPrices}
 use Rattle.order_values.specs.DualTrees.{PlainDual, fork, stop}
 use Rattle.order_proof.specs.Plain.{PlainTree, split, close, Cases, no_case, case_of, PlainPartTree, by_cases, by_pairs}
@@ -36,15 +35,6 @@ use Rattle.dual_bound.proofs.Sound.{nothing_fails}
 use Rattle.order_check.specs.Verdict.{failing}
 use Rattle.order_bound.specs.Values.{allows, are_allowed, value_of}
 
--- a line that is there is one of the list
-pub line_there : (lines : List LineId) (a : LineId) → has_line lines a ≡ true → Contains lines a
-line_there [] a h = absurd (true≢false (sym h))
-line_there (b ∷ lines) a h = by_case (or_cases (b.0 == a.0) (has_line lines a) h) (line_there lines a)
-  where
-    by_case : ((b.0 == a.0) ≡ true) ⊎ (has_line lines a ≡ true) → (has_line lines a ≡ true → Contains lines a) → Contains (b ∷ lines) a
-    by_case (inl e) later = subst (λ (x : LineId). Contains (b ∷ lines) x) (same_line b a e) (contains_first b lines)
-    by_case (inr e) later = contains_later b a lines (later e)
-
 -- the number of a term and its weight are in range
 abbrev pub IsTermInRange : ℕ × Term → Type 0
 IsTermInRange t = (t.0 ≤ most_id) × (weight_of t.1 ≤ most_price)
@@ -54,7 +44,7 @@ pub record IsAsked (q : Question) : Type 0 where
   pub segs : (s : SegId) → is_in q.part s ≡ true → s.0 ≤ most_id
   pub few : (s : SegId) → length (lines_on q.segs s) ≤ most_cases
   pub lines : (s : SegId) (a : LineId) → has_line (lines_on q.segs s) a ≡ true → a.0 ≤ most_id
-  pub terms : AllByRecursion IsTermInRange q.terms
+  pub terms : All IsTermInRange q.terms
 
 -- Prices that are allowed are in range.
 
@@ -62,23 +52,21 @@ abbrev IsSmall : ℕ → ℕ × ℤ → Type 0
 IsSmall most q = (q.0 ≤ most_id) × (unsigned_abs q.1 ≤ most)
 
 allowed_here : (placed : List (List LineId)) (q : ℕ × ℤ) (k : ℕ) (t : Term) → allows placed q k t ≡ true → (k ≡ q.0) × (unsigned_abs q.1 ≤ weight_of t)
-allowed_here placed q k (Side seg first second w) h = absurd (true≢false (sym h))
 allowed_here placed q k (Link seg other flip a b w) h =
     let parts = and_parts (k == q.0 && not (is_decided placed seg a b || is_decided placed other a b)) (nat_le (unsigned_abs q.1) w) h in
     let one = and_parts (k == q.0) (not (is_decided placed seg a b || is_decided placed other a b)) parts.0 in
     (eqb-true k q.0 one.0, leb-true (unsigned_abs q.1) w parts.1)
-allowed_here placed q k (Apart seg other a b w) h = absurd (true≢false (sym h))
+allowed_here placed q k t h = absurd (true≢false (sym h))
 
-price_small : (placed : List (List LineId)) (q : ℕ × ℤ) (terms : List (ℕ × Term)) → AllByRecursion IsTermInRange terms → list_any (λ (t : ℕ × Term). allows placed q t.0 t.1) terms ≡ true → IsSmall most_price q
-price_small placed q [] range h = absurd (true≢false (sym h))
-price_small placed q (t ∷ terms) range h = by_case (or_cases (allows placed q t.0 t.1) (list_any (λ (u : ℕ × Term). allows placed q u.0 u.1) terms) h) (price_small placed q terms range.1)
-  where
-    by_case : (allows placed q t.0 t.1 ≡ true) ⊎ (list_any (λ (u : ℕ × Term). allows placed q u.0 u.1) terms ≡ true)
-        → (list_any (λ (u : ℕ × Term). allows placed q u.0 u.1) terms ≡ true → IsSmall most_price q) → IsSmall most_price q
-    by_case (inl e) later = let at = allowed_here placed q t.0 t.1 e in (omega (arith, at.0, range.0.0), omega (arith, at.1, range.0.1))
-    by_case (inr e) later = later e
+price_small : (placed : List (List LineId)) (q : ℕ × ℤ) (terms : List (ℕ × Term)) → All IsTermInRange terms
+    → list_any (λ (t : ℕ × Term). allows placed q t.0 t.1) terms ≡ true → IsSmall most_price q
+price_small placed q terms range h =
+    let found = Any-from_list_any (λ (t : ℕ × Term). allows placed q t.0 t.1) terms h in
+    let in_range = All-contains IsTermInRange terms found.1 range (found.0, found.2, found.3) in
+    let at = allowed_here placed q found.1.0 found.1.1 found.4 in
+    (omega (arith, at.0, in_range.0), omega (arith, at.1, in_range.1))
 
-prices_small : (placed : List (List LineId)) (terms : List (ℕ × Term)) → AllByRecursion IsTermInRange terms → (prices : List (ℕ × ℤ)) → are_allowed placed terms prices ≡ true
+prices_small : (placed : List (List LineId)) (terms : List (ℕ × Term)) → All IsTermInRange terms → (prices : List (ℕ × ℤ)) → are_allowed placed terms prices ≡ true
     → AllByRecursion (IsSmall most_price) prices
 prices_small placed terms range [] h = tt
 prices_small placed terms range (q ∷ prices) h =
@@ -91,15 +79,23 @@ price_range most (pos (suc n)) some small = (omega arith, small)
 price_range most (negsuc n) some small = omega (arith, small)
 
 -- the first number is at least so much
-abbrev StartsAt : ℕ → List (ℕ × ℤ) → Type 0
-StartsAt least [] = Unit {0}
-StartsAt least (p ∷ rest) = least ≤ p.0
+abbrev pub StartsAt : {X : Type 0} → (X → ℕ) → ℕ → List X → Type 0
+StartsAt number least [] = Unit {0}
+StartsAt number least (x ∷ rest) = least ≤ number x
 
-starts_after : (p : ℕ × ℤ) (rest : List (ℕ × ℤ)) → AreRisingPrices (p ∷ rest) → StartsAt (suc p.0) rest × AreRisingPrices rest
+pub starts_at_0 : {X : Type 0} (number : X → ℕ) (xs : List X) → StartsAt number 0 xs
+starts_at_0 number [] = tt
+starts_at_0 number (x ∷ rest) = omega arith
+
+abbrev number_of : ℕ × ℤ → ℕ
+number_of p = p.0
+
+starts_after : (p : ℕ × ℤ) (rest : List (ℕ × ℤ)) → AreRisingPrices (p ∷ rest)
+    → StartsAt number_of (suc p.0) rest × AreRisingPrices rest
 starts_after p [] rise = (tt, tt)
 starts_after p (q ∷ rest) rise = (omega (arith, rise.0), rise.1)
 
-prices_range : (most least : ℕ) (prices : List (ℕ × ℤ)) → StartsAt least prices → AreRisingPrices prices → AreNotZero prices
+prices_range : (most least : ℕ) (prices : List (ℕ × ℤ)) → StartsAt number_of least prices → AreRisingPrices prices → AreNotZero prices
     → AllByRecursion (IsSmall most) prices → ArePrices most least prices
 prices_range most least [] starts rise some small = tt
 prices_range most least (p ∷ rest) starts rise some small =
@@ -109,10 +105,6 @@ prices_range most least (p ∷ rest) starts rise some small =
       price_range most p.1 some.0 small.0.1,
       prices_range most (suc p.0) rest after.0 after.1 some.1 small.1,
     )
-
-starts_at_0 : (prices : List (ℕ × ℤ)) → StartsAt 0 prices
-starts_at_0 [] = tt
-starts_at_0 (p ∷ rest) = omega arith
 
 allowed_where_closed : (q : Question) (placed : List (List LineId)) (prices : List (ℕ × ℤ)) → is_closed q placed prices ≡ true → are_allowed placed q.terms prices ≡ true
 allowed_where_closed q placed prices h = by_test (are_allowed placed q.terms prices) refl h
@@ -128,10 +120,6 @@ own_lines lines placed [] h = tt
 own_lines lines placed (a ∷ these) h =
     let parts = and_parts (is_left lines placed a) (list_all (is_left lines placed) these) h in
     ((and_parts (has_line lines a) (is_unplaced placed a) parts.0).0, own_lines lines placed these parts.1)
-
-those_there : (lines these : List LineId) → AllByRecursion (λ (a : LineId). has_line lines a ≡ true) these → AllByRecursion (Contains lines) these
-those_there lines [] all = tt
-those_there lines (a ∷ these) all = (line_there lines a all.0, those_there lines these all.1)
 
 distinct_apart : (lines : List LineId) → AreDistinct lines → AreApart lines
 distinct_apart [] h = tt
@@ -155,9 +143,11 @@ split_range q asked placed s cases distinct h =
     let parts = and_parts (is_in q.part s) (nat_lt 0 (length these) && are_those_left lines before these) h in
     let left = and_parts (nat_lt 0 (length these)) (are_those_left lines before these) parts.1 in
     let each = and_parts (list_all (is_left lines before) these) (list_all (λ b. is_placed before b || is_among these b) lines) left.1 in
-    let own = own_lines (lines_on q.segs s) (lines_on placed s) (lines_of cases) each.0 in
-    let there : All (Contains (lines_on q.segs s)) (lines_of cases) = All-from_recursion (Contains (lines_on q.segs s)) (lines_of cases) (those_there (lines_on q.segs s) (lines_of cases) own) in
-    let few = few_apart (lines_of cases) (lines_on q.segs s) (distinct_apart (lines_of cases) distinct) there in
+    let own = own_lines lines before these each.0 in
+    let all_own = All-from_recursion (λ (a : LineId). has_line lines a ≡ true) these own in
+    let there : All (Contains lines) these =
+    All-weaker (λ (a : LineId). has_line lines a ≡ true) (Contains lines) (contains_placed lines) these all_own in
+    let few = few_apart these lines (distinct_apart these distinct) there in
     record { seg = asked.segs s parts.0; few = omega (arith, few, count_is cases, asked.few s); own = own }
 
 mutual
@@ -167,7 +157,7 @@ mutual
       let at = split_range q asked placed s cases is.1 parts.0 in
       (at.seg, omega (arith, is.0), at.few, is.1, cases_range q asked placed s cases is.2 at.own parts.1)
   tree_range q asked placed (close prices) is h =
-      prices_range most_price 0 prices (starts_at_0 prices) is.0 is.1 (prices_small placed q.terms asked.terms prices (allowed_where_closed q placed prices h))
+      prices_range most_price 0 prices (starts_at_0 number_of prices) is.0 is.1 (prices_small placed q.terms asked.terms prices (allowed_where_closed q placed prices h))
 
   cases_range : (q : Question) → IsAsked q → (placed : List (List LineId)) (s : SegId) (cases : Cases) → AreTrees cases → AllByRecursion (λ (a : LineId). has_line (lines_on q.segs s) a ≡ true) (lines_of cases)
       → accepts_cases q placed s cases ≡ true → AreCasesInRange cases
@@ -181,27 +171,19 @@ mutual
 pair_allowed : (q : ℕ × ℤ) (t : ℕ × Term) → pairs.allows q t ≡ true
     → (t.0 ≡ q.0) × (unsigned_abs q.1 ≤ thousand * weight_of t.1)
 pair_allowed q (k, Side seg first second w) h = absurd (true≢false (sym h))
-pair_allowed q (k, Link seg other flip a b w) h =
-    let parts = and_parts (k == q.0) (nat_le (unsigned_abs q.1) (thousand * w)) h in
-    (eqb-true k q.0 parts.0, leb-true (unsigned_abs q.1) (thousand * w) parts.1)
-pair_allowed q (k, Apart seg other a b w) h =
-    let parts = and_parts (k == q.0) (nat_le (unsigned_abs q.1) (thousand * w)) h in
-    (eqb-true k q.0 parts.0, leb-true (unsigned_abs q.1) (thousand * w) parts.1)
+pair_allowed q (k, t) h =
+    let parts = and_parts (k == q.0) (nat_le (unsigned_abs q.1) (thousand * weight_of t)) h in
+    (eqb-true k q.0 parts.0, leb-true (unsigned_abs q.1) (thousand * weight_of t) parts.1)
 
-stop_small : (q : ℕ × ℤ) (terms : List (ℕ × Term)) → AllByRecursion IsTermInRange terms
-    → list_any (pairs.allows q) terms ≡ true → IsSmall most_stop_price q
-stop_small q [] range h = absurd (true≢false (sym h))
-stop_small q (t ∷ terms) range h =
-    by_case (or_cases (pairs.allows q t) (list_any (pairs.allows q) terms) h) (stop_small q terms range.1)
-  where
-    by_case : (pairs.allows q t ≡ true) ⊎ (list_any (pairs.allows q) terms ≡ true)
-        → (list_any (pairs.allows q) terms ≡ true → IsSmall most_stop_price q) → IsSmall most_stop_price q
-    by_case (inl e) later =
-        let at = pair_allowed q t e in
-        (omega (arith, at.0, range.0.0), omega (arith, at.1, range.0.1))
-    by_case (inr e) later = later e
+stop_small : (q : ℕ × ℤ) (terms : List (ℕ × Term)) → All IsTermInRange terms → list_any (pairs.allows q) terms ≡ true
+    → IsSmall most_stop_price q
+stop_small q terms range h =
+    let found = Any-from_list_any (pairs.allows q) terms h in
+    let in_range = All-contains IsTermInRange terms found.1 range (found.0, found.2, found.3) in
+    let at = pair_allowed q found.1 found.4 in
+    (omega (arith, at.0, in_range.0), omega (arith, at.1, in_range.1))
 
-stops_small : (terms : List (ℕ × Term)) → AllByRecursion IsTermInRange terms → (prices : List (ℕ × ℤ))
+stops_small : (terms : List (ℕ × Term)) → All IsTermInRange terms → (prices : List (ℕ × ℤ))
     → pairs.are_allowed terms prices ≡ true → AllByRecursion (IsSmall most_stop_price) prices
 stops_small terms range [] h = tt
 stops_small terms range (q ∷ prices) h =
@@ -227,15 +209,14 @@ dual_range q asked settled (fork s a b first second) is h =
     )
 dual_range q asked settled (stop prices) is h =
     let allowed = (and_parts (pairs.are_allowed q.terms prices) _ h).0 in
-    prices_range most_stop_price 0 prices (starts_at_0 prices) is.0 is.1 (stops_small q.terms asked.terms prices allowed)
+    prices_range most_stop_price 0 prices (starts_at_0 number_of prices) is.0 is.1 (stops_small q.terms asked.terms prices allowed)
 
 -- a part's tree that does not fail is in range
 pub part_tree_range : (q : Question) → IsAsked q → (tree : PlainPartTree) → IsPartTree tree → failing q tree ≡ None
     → IsPartTreeInRange tree
 part_tree_range q asked (by_cases tree) is h =
     tree_range q asked (none_placed q.segs) tree is.is_tree ((accepted_exactly q (none_placed q.segs) tree).1 h)
-part_tree_range q asked (by_pairs tree) is h =
-    dual_range q asked [] tree is.is_tree (((nothing_fails q tree).0 h).1)
+part_tree_range q asked (by_pairs tree) is h = dual_range q asked [] tree is.is_tree (((nothing_fails q tree).0 h).1)
 
 pub part_depth : (tree : PlainPartTree) → IsPartTree tree → depth_of_part tree ≤ most_depth
 part_depth (by_cases tree) is = is.depth

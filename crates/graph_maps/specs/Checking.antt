@@ -183,8 +183,7 @@ check_on subject choices claim graph svg read = pictured svg (certificate_on sub
 -- the fault is the one that comes by definition; want of memory is free
 abbrev pub HasCause : {A : Type 0} → Result A CheckFault → CheckFault → Type 0
 HasCause outcome fault.NoMemory = Unit {0}
-HasCause outcome (fault.Refuted i) = outcome ≡ Err (fault.Refuted i)
-HasCause outcome (fault.Limit limit) = outcome ≡ Err (fault.Limit limit)
+HasCause outcome stop = outcome ≡ Err stop
 
 -- what was answered, seen by view, is what comes by definition, unless memory ran out
 abbrev pub Gives : {X Y : Type 0} → (X → Y) → Result X CheckFault → Result Y CheckFault → Type 0

@@ -32,11 +32,8 @@ finished_on importance choices method graph = finished_in (plan_of choices metho
 
 -- every part that the map finishes is held afterwards, unless memory ran out
 abbrev pub HoldsFinished : {X : Type 0} → Result X MakeFault → List HeldPart → List HeldPart → Type 0
-HoldsFinished (Ok x) finished held = All (Contains held) finished
 HoldsFinished (Err fault.NoMemory) finished held = Unit {0}
-HoldsFinished (Err (fault.NoRoute seg)) finished held = All (Contains held) finished
-HoldsFinished (Err (fault.Spent component branches)) finished held = All (Contains held) finished
-HoldsFinished (Err (fault.Limit limit)) finished held = All (Contains held) finished
+HoldsFinished result finished held = All (Contains held) finished
 
 -- the parts of a problem that are not held
 abbrev pub parts_missing : List HeldPart → SearchPlan → ProblemParts → List (List SegId)

@@ -76,9 +76,7 @@ bytes_of made = record { svg = made.svg.items; certificate = made.certificate.it
 -- the fault is the one that comes by definition; want of memory is free
 abbrev pub HasCause : {A : Type 0} → Result A MakeFault → MakeFault → Type 0
 HasCause outcome fault.NoMemory = Unit {0}
-HasCause outcome (fault.NoRoute seg) = outcome ≡ Err (fault.NoRoute seg)
-HasCause outcome (fault.Spent component branches) = outcome ≡ Err (fault.Spent component branches)
-HasCause outcome (fault.Limit limit) = outcome ≡ Err (fault.Limit limit)
+HasCause outcome stop = outcome ≡ Err stop
 
 -- what was answered, seen by view, is what comes by definition, unless memory ran out
 abbrev pub Gives : {X Y : Type 0} → (X → Y) → Result X MakeFault → Result Y MakeFault → Type 0

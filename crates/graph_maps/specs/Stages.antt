@@ -30,7 +30,6 @@ use Rattle.graph_maps.specs.declared.improvement.Improvement.{Improvement}
 use Rattle.graph_maps.specs.declared.improvement.ImprovedMap.{ImprovedMap}
 use Rattle.graph_maps.specs.declared.solution.Solution.{Solution}
 use Rattle.map_faults.specs.declared.fault.MakeFault.{MakeFault}
-use Rattle.map_faults.specs.declared.fault.MakeFault.TheVariants as fault
 use Rattle.graph_maps.specs.Problems.{Drawn, untangled_problem}
 use Rattle.graph_maps.specs.Moving.{improvement_of, walks_after}
 use Rattle.kept_trees.specs.Results.{PartResult, part_outcome}

@@ -1,6 +1,5 @@
 -- Names that are printed keep clear of each other, of markers and of walks.
-use Rattle.std.proofs.Common.{◌≡◌, ℕ, zero, suc, ◌+◌, Bool, true, false, not, cond, ◌||◌, ◌&&◌, ℤ, List, [], ◌∷◌, ◌++◌, length, Option, Some, None, refl, ap, subst, sym, ◌∙◌, arith}
-use Rattle.std.specs.Prelude.{int_le}
+use Rattle.std.proofs.Common.{◌≡◌, ℕ, zero, suc, ◌+◌, Bool, true, false, not, cond, ◌||◌, ℤ, List, [], ◌∷◌, ◌++◌, length, Option, Some, None, refl, subst, sym, ◌∙◌, arith}
 use Rattle.std.specs.Int.{int_min, int_max}
 use Rattle.std.specs.List.{find, list_all, list_any, range_with_len}
 use Rattle.std.proofs.lemmas.Int.{ints, clamps}
@@ -18,6 +17,8 @@ use Rattle.label_place.specs.declared.place.Place.{Place}
 use Rattle.label_place.specs.Boxes.{share_point}
 use Rattle.label_place.specs.Places.{all_places, are_apart, box_at, boxes_from, first_places, is_clear, is_taken, marker_squares, meets_walk, place_of, sign_of, with_next}
 use Rattle.label_place.proofs.Held.{boxes_from-append, length-places}
+use Rattle.label_place.proofs.Numbers.{le_ends}
+use Rattle.label_place.proofs.Tests.{and_same}
 
 max_swap : (a b : ℤ) → int_max a b ≡ int_max b a
 max_swap a b = omega (arith, ints, clamps)
@@ -26,11 +27,9 @@ min_swap : (a b : ℤ) → int_min a b ≡ int_min b a
 min_swap a b = omega (arith, ints, clamps)
 
 share_swap : (a b : Bounds) → share_point a b ≡ share_point b a
-share_swap a b =
-    ap (λ (z : ℤ). int_le z (int_min a.right b.right) && int_le (int_max a.top b.top) (int_min a.bottom b.bottom)) (max_swap a.left b.left)
-    ∙ ap (λ (z : ℤ). int_le (int_max b.left a.left) z && int_le (int_max a.top b.top) (int_min a.bottom b.bottom)) (min_swap a.right b.right)
-    ∙ ap (λ (z : ℤ). int_le (int_max b.left a.left) (int_min b.right a.right) && int_le z (int_min a.bottom b.bottom)) (max_swap a.top b.top)
-    ∙ ap (λ (z : ℤ). int_le (int_max b.left a.left) (int_min b.right a.right) && int_le (int_max b.top a.top) z) (min_swap a.bottom b.bottom)
+share_swap a b = and_same _ _ _ _
+    (le_ends (int_max a.left b.left) (int_min a.right b.right) _ _ (max_swap a.left b.left) (min_swap a.right b.right))
+    (le_ends (int_max a.top b.top) (int_min a.bottom b.bottom) _ _ (max_swap a.top b.top) (min_swap a.bottom b.bottom))
 
 -- one box more
 apart_more : (bs : List Bounds) (b : Bounds) → are_apart bs ≡ true → list_any (share_point b) bs ≡ false → are_apart (bs ++ b ∷ []) ≡ true
@@ -67,8 +66,7 @@ keep_more g walks boxes b h free =
     let near = or_parts (list_any (share_point b) boxes) (list_any (share_point b) (marker_squares g walks)) parts.0 in
     record {
       apart = apart_more boxes b h.apart near.0;
-      clear =
-          list_all-append (is_clear g walks) boxes (b ∷ [])
+      clear = list_all-append (is_clear g walks) boxes (b ∷ [])
           ∙ and_from _ _ h.clear (and_from _ _ (not_from_false _ (or_from _ _ (or_from false (list_any (share_point b) (marker_squares g walks)) refl near.1) parts.1)) refl);
     }
 

@@ -37,12 +37,10 @@ pub spots_more : (names : Names) (g : GraphParts) (walks : List PlainWalk) (n : 
     → after ++ spots_from names g walks (n + 1) (drop (n + 1) ps) ≡ whole
 spots_more names g walks n ps place spot before after whole low is at grew all =
     let rest = spots_from names g walks (n + 1) (drop (n + 1) ps) in
-    ap (λ (spots : List (Option Corner)). spots ++ rest) grew
-    ∙ append_assoc before (spot ∷ []) rest
+    ap (λ (spots : List (Option Corner)). spots ++ rest) grew ∙ append_assoc before (spot ∷ []) rest
     ∙ ap (λ (s : Option Corner). before ++ s ∷ rest) at
     ∙ ap (λ (p : Option Place). before ++ spots_from names g walks n (p ∷ drop (n + 1) ps)) is
-    ∙ sym (ap (λ (qs : List (Option Place)). before ++ spots_from names g walks n qs) (drop_more ps n None low))
-    ∙ all
+    ∙ sym (ap (λ (qs : List (Option Place)). before ++ spots_from names g walks n qs) (drop_more ps n None low)) ∙ all
 
 pub spots_all : (names : Names) (g : GraphParts) (walks : List PlainWalk) (n : ℕ) (ps : List (Option Place)) (before whole : List (Option Corner)) → length ps ≡ n
     → before ++ spots_from names g walks n (drop n ps) ≡ whole → before ≡ whole

@@ -1,6 +1,7 @@
 -- Tables that hold what names keep clear of.
 use Rattle.std.proofs.Common.{◌≡◌, ℕ, zero, suc, ◌+◌, ◌<◌, Bool, true, false, not, cond, ◌||◌, List, [], ◌∷◌, ◌++◌, length, get_or, drop, Option, Some, None, refl, ap, subst, sym, ◌∙◌, arith, append_assoc, length-append}
 use Rattle.std.specs.List.{find, list_any, range_with_len}
+use Rattle.std.proofs.Math.Bool.{or_assoc, or_comm}
 use Rattle.std.proofs.lemmas.Int.{ints}
 use Rattle.std.proofs.lemmas.List.{append-nil, drop_more, map-append}
 use Rattle.std.proofs.lemmas.List.Folds.{list_any-append}
@@ -29,19 +30,13 @@ use Rattle.label_place.proofs.Stepping.{strokes_met}
 -- ---- what is taken, by things
 
 or_turned : (a b c : Bool) → (a || (b || c)) ≡ ((c || a) || b)
-or_turned true b true = refl
-or_turned true b false = refl
-or_turned false true true = refl
-or_turned false true false = refl
-or_turned false false true = refl
-or_turned false false false = refl
+or_turned a b c = sym (or_assoc a b c) ∙ or_comm (a || b) c ∙ sym (or_assoc c a b)
 
 areas_met : (box : Bounds) (bs : List Bounds) → list_any (meets box) (areas bs) ≡ list_any (share_point box) bs
 areas_met box bs = any_map (meets box) (λ (b : Bounds). Area b) bs
 
 walks_met : (g : GraphParts) (walks : List PlainWalk) (box : Bounds) → list_any (meets box) (all_strokes g walks) ≡ list_any (meets_walk g walks box) (range_with_len 0 (length g.ends))
-walks_met g walks box =
-    any_flat (meets box) (walk_things g walks) (range_with_len 0 (length g.ends))
+walks_met g walks box = any_flat (meets box) (walk_things g walks) (range_with_len 0 (length g.ends))
     ∙ any_same (λ (s : ℕ). list_any (meets box) (walk_things g walks s)) (meets_walk g walks box) (range_with_len 0 (length g.ends))
     (λ s. strokes_met box (margin_of g s) (walk_at walks s).start (walk_at walks s).steps)
 
@@ -55,18 +50,14 @@ taken_by_things g walks printed box =
 table_tells : (table : Grid) (g : GraphParts) (walks : List PlainWalk) (printed : List Bounds) (box : Bounds) → Has table g walks printed → IsUpright box → meets_some table box ≡ is_taken g walks printed box
 table_tells table g walks printed box h up =
     any_same (meets_at table box) (λ (q : Cell). list_any (found_at table.side box q) (things_of g walks printed)) (cells_in (cells_of table.side box)) (λ q. h.found box q)
-    ∙ all_found table.side box (things_of g walks printed) h.linked.side up
-    ∙ taken_by_things g walks printed box
+    ∙ all_found table.side box (things_of g walks printed) h.linked.side up ∙ taken_by_things g walks printed box
 
 -- ---- tables that grow
 
 pub has_all : (empty marked full : Grid) (g : GraphParts) (walks : List PlainWalk) → empty.entries.items ≡ [] → Adds empty marked (areas (marker_squares g walks)) → Adds marked full (all_strokes g walks) → Has full g walks []
 has_all empty marked full g walks none squares strokes = record {
   linked = strokes.linked;
-  found = λ box q.
-      strokes.found box q
-      ∙ or_same _ _ _ _ (squares.found box q) refl
-      ∙ start box q
+  found = λ box q. strokes.found box q ∙ or_same _ _ _ _ (squares.found box q) refl ∙ start box q
       ∙ ap (λ (side : ℕ). list_any (found_at side box q) (areas (marker_squares g walks)) || list_any (found_at marked.side box q) (all_strokes g walks)) (sym (strokes.side ∙ squares.side))
       ∙ ap (λ (side : ℕ). list_any (found_at full.side box q) (areas (marker_squares g walks)) || list_any (found_at side box q) (all_strokes g walks)) (sym strokes.side)
       ∙ sym (list_any-append (found_at full.side box q) (areas (marker_squares g walks)) (all_strokes g walks))
@@ -86,8 +77,7 @@ has_more old new g walks printed more h adds =
     ∙ sym (append_assoc (areas (marker_squares g walks)) (all_strokes g walks ++ areas printed) (areas more)) in
     record {
       linked = adds.linked;
-      found = λ box q.
-          adds.found box q
+      found = λ box q. adds.found box q
           ∙ ap (λ (b : Bool). b || list_any (found_at old.side box q) (areas more)) (h.found box q)
           ∙ sym (list_any-append (found_at old.side box q) (things_of g walks printed) (areas more))
           ∙ ap (list_any (found_at old.side box q)) (sym all)
@@ -114,14 +104,12 @@ takes_none g names graph walks n e = record {
 pub takes_free : (old new : Grid) (names : Names) (graph : GraphParts) (walks : List PlainWalk) (n : ℕ) (s : StationId) (sign : Sign) (place : Option Place)
     → kind_at graph.kinds n ≡ Station s → sign ≡ sign_of names graph walks n → TakesFree old new sign place → Takes old new names graph walks n place
 takes_free old new names graph walks n s sign place kind is h = record {
-  first = λ printed has.
-      h.first
+  first = λ printed has. h.first
       ∙ found_same (is_free old sign) (λ (p : Place). not (is_taken graph walks printed (box_at sign p))) all_places
       (λ p. ap not (table_tells old graph walks printed (box_at sign p) has (upright (text_at sign p) (width sign))))
       ∙ ap (λ (v : Sign). find (λ (p : Place). not (is_taken graph walks printed (box_at v p))) all_places) is
       ∙ ap (place_of names graph walks printed n) (sym kind);
-  has = λ printed has.
-      has_more old new graph walks printed (boxes_from names graph walks n (place ∷ [])) has
+  has = λ printed has. has_more old new graph walks printed (boxes_from names graph walks n (place ∷ [])) has
       (subst (λ (bs : List Bounds). Adds old new (areas bs)) (ap (λ (v : Sign). boxes_at v place) is ∙ by_place place) h.adds);
 }
   where
@@ -158,9 +146,7 @@ placed_more old new names g walks n found more place h takes e =
     let count : 0 + length found ≡ n = omega (arith, ap length h.places, length-places names g walks n) in
     let next : n + 1 ≡ suc n = omega arith in
     record {
-      places =
-          e
-          ∙ ap (λ (p : Option Place). found ++ p ∷ []) (takes.first boxes h.has)
+      places = e ∙ ap (λ (p : Option Place). found ++ p ∷ []) (takes.first boxes h.has)
           ∙ ap (λ (ps : List (Option Place)). ps ++ place_of names g walks (boxes_from names g walks 0 ps) n (kind_at g.kinds n) ∷ []) h.places
           ∙ sym (ap (first_places names g walks) next);
       has = subst (λ (bs : List Bounds). Has new g walks bs) (sym (ap (boxes_from names g walks 0) e ∙ boxes_from-append names g walks 0 n found (place ∷ []) count)) (takes.has boxes h.has);

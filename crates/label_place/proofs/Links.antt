@@ -3,6 +3,7 @@ use Rattle.std.proofs.Common.{◌≡◌, ℕ, zero, suc, ◌+◌, ◌<◌, ◌�
 use Rattle.std.specs.Prelude.{IfSome}
 use Rattle.std.specs.List.{list_any}
 use Rattle.std.specs.HashMap.{get}
+use Rattle.std.proofs.Math.Bool.{or-false}
 use Rattle.std.proofs.lemmas.Bool.{cases_lt, and_parts, and_from, and_right, or_right, eqb-true}
 use Rattle.std.proofs.lemmas.Bool.Decides.{nat_tests}
 use Rattle.std.proofs.lemmas.List.{get_or_append_left, take_all}
@@ -13,7 +14,6 @@ use Rattle.label_place.specs.declared.cells.Cell.{Cell}
 use Rattle.label_place.specs.declared.grid.Entry.{Entry}
 use Rattle.label_place.specs.declared.grid.Grid.{Grid}
 use Rattle.label_place.specs.Grids.{hits, hits_upto, is_cell, last_before, meets, meets_at, no_entry, put_in, IsLinked, IsThing}
-use Rattle.label_place.proofs.Tests.{or_false}
 
 -- what the last entries of a cell are met by
 pub hits_known : (box : Bounds) (q : Cell) (es : List Entry) (n : ℕ) → n ≤ length es → hits_upto box q es (last_before q es n) ≡ list_any (hits box q) (take n es)
@@ -26,7 +26,7 @@ hits_known box q es (suc n) h =
         → list_any (hits box q) (take (n + 1) es) ≡ (list_any (hits box q) (take n es) || (b && meets box (get_or es n no_entry).thing))
         → hits_upto box q es (cond b (Some n) (last_before q es n)) ≡ list_any (hits box q) (take (n + 1) es)
     by_test true e f = refl
-    by_test false e f = e ∙ sym (or_false _) ∙ sym f
+    by_test false e f = e ∙ sym (or-false _) ∙ sym f
 
 pub last_below : (q : Cell) (es : List Entry) (n k : ℕ) → last_before q es n ≡ Some k → k < n
 last_below q es zero k e = cc
@@ -71,8 +71,7 @@ linked_more old new e linked thing side pushed earlier heads =
     let es = old.entries.items in
     record {
       side = subst (λ (n : ℕ). 0 < n) (sym side) linked.side;
-      heads = λ q.
-          heads q
+      heads = λ q. heads q
           ∙ ap (λ (b : Bool). cond b (Some (length es)) (get is_cell old.heads q)) (is_cell_swap e.cell q)
           ∙ ap (λ (o : Option ℕ). cond (is_cell q e.cell) (Some (length es)) o) (linked.heads q)
           ∙ sym (last_before-last q es e)
@@ -88,8 +87,7 @@ linked_more old new e linked thing side pushed earlier heads =
           | inl h ↦
               (subst (λ (x : Entry). x.earlier ≡ last_before x.cell (es ++ e ∷ []) k) (sym (get_or_append_left es (e ∷ []) no_entry k h))
               (linked.earlier k h ∙ sym (last_before-append (get_or es k no_entry).cell es e k (omega arith))))
-          | inr h ↦
-              (let at : k ≡ length es = omega (arith, length-append es (e ∷ [])) in
+          | inr h ↦ (let at : k ≡ length es = omega (arith, length-append es (e ∷ [])) in
               subst (λ (i : ℕ). (get_or (es ++ e ∷ []) i no_entry).earlier ≡ last_before (get_or (es ++ e ∷ []) i no_entry).cell (es ++ e ∷ []) i) (sym at)
               (subst (λ (x : Entry). x.earlier ≡ last_before x.cell (es ++ e ∷ []) (length es)) (sym (get_or-append_seam es e [] no_entry))
               (earlier ∙ sym (last_before-append e.cell es e (length es) (omega arith)))))
@@ -100,8 +98,7 @@ linked_more old new e linked thing side pushed earlier heads =
         let es = old.entries.items in
         elim (cases_lt k (length es)) [
           | inl h ↦ subst (λ (x : Entry). IsThing x.thing) (sym (get_or_append_left es (e ∷ []) no_entry k h)) (linked.things k h)
-          | inr h ↦
-              (let at : k ≡ length es = omega (arith, length-append es (e ∷ [])) in
+          | inr h ↦ (let at : k ≡ length es = omega (arith, length-append es (e ∷ [])) in
               subst (λ (i : ℕ). IsThing (get_or (es ++ e ∷ []) i no_entry).thing) (sym at)
               (subst (λ (x : Entry). IsThing x.thing) (sym (get_or-append_seam es e [] no_entry)) thing))
         ]
@@ -109,10 +106,9 @@ linked_more old new e linked thing side pushed earlier heads =
 -- what it is met by
 pub meets_more : (old new : Grid) (e : Entry) → new.entries.items ≡ old.entries.items ++ e ∷ [] → (box : Bounds) (q : Cell)
     → meets_at new box q ≡ (meets_at old box q || put_in (e.cell ∷ []) e.thing box q)
-meets_more old new e pushed box q =
-    ap (list_any (hits box q)) pushed
+meets_more old new e pushed box q = ap (list_any (hits box q)) pushed
     ∙ list_any-append (hits box q) old.entries.items (e ∷ [])
-    ∙ ap (λ (b : Bool). meets_at old box q || b) (or_false (hits box q e) ∙ ap (λ (b : Bool). b && meets box e.thing) (sym (or_false (is_cell q e.cell))))
+    ∙ ap (λ (b : Bool). meets_at old box q || b) (or-false (hits box q e) ∙ ap (λ (b : Bool). b && meets box e.thing) (sym (or-false (is_cell q e.cell))))
 
 -- how many entries are left, up to this one
 abbrev pub left_over : Option ℕ → ℕ
@@ -153,9 +149,8 @@ pub past_entry : (g : Grid) (box : Bounds) (q : Cell) (i : ℕ) → IsLinked g �
     → hits_upto box q g.entries.items (get_or g.entries.items i no_entry).earlier ≡ hits_upto box q g.entries.items (Some i)
 past_entry g box q i h low cell missed =
     let es = g.entries.items in
-    ap (hits_upto box q es) (earlier_is g q i h low cell)
-    ∙ hits_known box q es i (omega arith)
-    ∙ sym (or_false (list_any (hits box q) (take i es)))
+    ap (hits_upto box q es) (earlier_is g q i h low cell) ∙ hits_known box q es i (omega arith)
+    ∙ sym (or-false (list_any (hits box q) (take i es)))
     ∙ ap (λ (b : Bool). list_any (hits box q) (take i es) || b) (sym (and_right (is_cell q (get_or es i no_entry).cell) _ missed))
     ∙ sym (list_any_more (hits box q) es i no_entry low)
 

@@ -4,6 +4,7 @@ use Rattle.std.specs.Prelude.{int_le}
 use Rattle.std.specs.Int.{int_min, int_max}
 use Rattle.std.specs.List.{list_any, range_with_len}
 use Rattle.std.proofs.lemmas.Int.{ints, clamps}
+use Rattle.std.proofs.Math.Bool.{and-false, and-true}
 use Rattle.std.proofs.lemmas.Nat.{le-div, div-add-mod'}
 use Rattle.std.proofs.lemmas.Bool.{and_parts, and_from, eq-eqb}
 use Rattle.octi_grid.specs.declared.dir.Dir.{Dir}
@@ -18,7 +19,7 @@ use Rattle.label_place.specs.declared.cells.Cells.{Cells}
 use Rattle.label_place.specs.Boxes.{holds, share_point, wider}
 use Rattle.label_place.specs.Strokes.{point_on, units}
 use Rattle.label_place.specs.Grids.{above, cells_in, cells_of, found_at, is_cell, line_of, meets, reach, row_cells, span}
-use Rattle.label_place.proofs.Tests.{and_true, any_and, any_flat, any_in_range, any_map, any_never, any_or, or_same, some_of_range, and_false}
+use Rattle.label_place.proofs.Tests.{any_and, any_flat, any_in_range, any_map, any_never, any_or, or_same, some_of_range}
 use Rattle.label_place.proofs.Orders.{le_true, le_from, le_trans, max_le, le_min, max_first, max_second, min_first, min_second}
 use Rattle.label_place.proofs.Timing.{units_are}
 
@@ -29,31 +30,19 @@ pub record IsUpright (b : Bounds) : Type 0 where
 
 -- ---- a step that comes near
 
-least_le : (a b z : ℤ) → a ≤ℤ z → int_min a b ≤ℤ z
-least_le a b z h = omega (arith, ints, clamps)
-
-least_le_second : (a b z : ℤ) → b ≤ℤ z → int_min a b ≤ℤ z
-least_le_second a b z h = omega (arith, ints, clamps)
-
-le_most : (a b z : ℤ) → z ≤ℤ a → z ≤ℤ int_max a b
-le_most a b z h = omega (arith, ints, clamps)
-
-le_most_second : (a b z : ℤ) → z ≤ℤ b → z ≤ℤ int_max a b
-le_most_second a b z h = omega (arith, ints, clamps)
-
 -- a number between two others, either way round
 record IsBetween (a z b : ℤ) : Type 0 where
   low : int_min a b ≤ℤ z
   high : z ≤ℤ int_max a b
 
 goes_up : (a z b : ℤ) (t : ℕ) → t ≤ 100 → z ≡ a +ℤ pos t → b ≡ a +ℤ pos 100 → IsBetween a z b
-goes_up a z b t h e f = record { low = least_le a b z (omega (arith, ints)); high = le_most_second a b z (omega (arith, ints)) }
+goes_up a z b t h e f = record { low = omega (arith, ints, clamps); high = omega (arith, ints, clamps) }
 
 goes_down : (a z b : ℤ) (t : ℕ) → t ≤ 100 → z ≡ a -ℤ pos t → b ≡ a -ℤ pos 100 → IsBetween a z b
-goes_down a z b t h e f = record { low = least_le_second a b z (omega (arith, ints)); high = le_most a b z (omega (arith, ints)) }
+goes_down a z b t h e f = record { low = omega (arith, ints, clamps); high = omega (arith, ints, clamps) }
 
 goes_nowhere : (a z b : ℤ) → z ≡ a → IsBetween a z b
-goes_nowhere a z b e = record { low = least_le a b z (omega (arith, ints)); high = le_most a b z (omega (arith, ints)) }
+goes_nowhere a z b e = record { low = omega (arith, ints, clamps); high = omega (arith, ints, clamps) }
 
 on_way_across : (d : Dir) (from : ℤ) (t : ℕ) → t ≤ 100 → IsBetween from (from +ℤ (pos t *ℤ east_of d)) (from +ℤ (pos 100 *ℤ east_of d))
 on_way_across dir.N from t h = goes_nowhere from _ _ (omega (arith, ints))
@@ -61,24 +50,19 @@ on_way_across dir.NE from t h = goes_up from _ _ t h (omega (arith, ints)) (omeg
 on_way_across dir.E from t h = goes_up from _ _ t h (omega (arith, ints)) (omega (arith, ints))
 on_way_across dir.SE from t h = goes_up from _ _ t h (omega (arith, ints)) (omega (arith, ints))
 on_way_across dir.S from t h = goes_nowhere from _ _ (omega (arith, ints))
-on_way_across dir.SW from t h = goes_down from _ _ t h (omega (arith, ints)) (omega (arith, ints))
-on_way_across dir.W from t h = goes_down from _ _ t h (omega (arith, ints)) (omega (arith, ints))
-on_way_across dir.NW from t h = goes_down from _ _ t h (omega (arith, ints)) (omega (arith, ints))
+on_way_across d from t h = goes_down from _ _ t h (omega (arith, ints)) (omega (arith, ints))
 
 on_way_down : (d : Dir) (from : ℤ) (t : ℕ) → t ≤ 100 → IsBetween from (from -ℤ (pos t *ℤ north_of d)) (from -ℤ (pos 100 *ℤ north_of d))
-on_way_down dir.N from t h = goes_down from _ _ t h (omega (arith, ints)) (omega (arith, ints))
-on_way_down dir.NE from t h = goes_down from _ _ t h (omega (arith, ints)) (omega (arith, ints))
 on_way_down dir.E from t h = goes_nowhere from _ _ (omega (arith, ints))
 on_way_down dir.SE from t h = goes_up from _ _ t h (omega (arith, ints)) (omega (arith, ints))
 on_way_down dir.S from t h = goes_up from _ _ t h (omega (arith, ints)) (omega (arith, ints))
 on_way_down dir.SW from t h = goes_up from _ _ t h (omega (arith, ints)) (omega (arith, ints))
 on_way_down dir.W from t h = goes_nowhere from _ _ (omega (arith, ints))
-on_way_down dir.NW from t h = goes_down from _ _ t h (omega (arith, ints)) (omega (arith, ints))
+on_way_down d from t h = goes_down from _ _ t h (omega (arith, ints)) (omega (arith, ints))
 
 -- a range, and one that is wider by a margin and has a number of it
 overlap : (l r a b z : ℤ) (m : ℕ) → l ≤ℤ r → (l -ℤ pos m) ≤ℤ z → z ≤ℤ (r +ℤ pos m) → a ≤ℤ z → z ≤ℤ b → int_max l (a -ℤ pos m) ≤ℤ int_min r (b +ℤ pos m)
-overlap l r a b z m h low high from till =
-    max_le l (a -ℤ pos m) (int_min r (b +ℤ pos m))
+overlap l r a b z m h low high from till = max_le l (a -ℤ pos m) (int_min r (b +ℤ pos m))
     (le_min r (b +ℤ pos m) l h (omega (arith, ints)))
     (le_min r (b +ℤ pos m) (a -ℤ pos m) (omega (arith, ints)) (omega (arith, ints)))
 
@@ -127,8 +111,7 @@ in_row cs row column test l r e =
     ∙ any_in_range (λ (k : ℕ). test (record { column = k; row = row })) cs.left (cs.right + 1 - cs.left) column l (omega arith) e
 
 pub in_rows_of : (cs : Cells) (row : ℕ) (test : Cell → Bool) → cs.top ≤ row → row ≤ cs.bottom → list_any test (row_cells cs row) ≡ true → list_any test (cells_in cs) ≡ true
-in_rows_of cs row test t u e =
-    any_flat test (row_cells cs) (range_with_len cs.top (cs.bottom + 1 - cs.top))
+in_rows_of cs row test t u e = any_flat test (row_cells cs) (range_with_len cs.top (cs.bottom + 1 - cs.top))
     ∙ any_in_range (λ (k : ℕ). list_any test (row_cells cs k)) cs.top (cs.bottom + 1 - cs.top) row t (omega arith) e
 
 -- a cell of a point of a box passes
@@ -167,8 +150,8 @@ one_found side box t p up =
   where
     by_test : (b : Bool) → (b ≡ true → list_any (λ (q : Cell). list_any (is_cell q) (cells_in (cells_of side (reach t)))) (cells_in (cells_of side box)) ≡ true)
         → (list_any (λ (q : Cell). list_any (is_cell q) (cells_in (cells_of side (reach t)))) (cells_in (cells_of side box)) && b) ≡ b
-    by_test true f = and_true _ ∙ f refl
-    by_test false f = and_false _
+    by_test true f = and-true _ ∙ f refl
+    by_test false f = and-false _
 
 -- some thing is found in the cells of a box exactly where the box meets one
 pub all_found : (side : ℕ) (box : Bounds) (things : List Thing) → 0 < side → IsUpright box

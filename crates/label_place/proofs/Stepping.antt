@@ -26,8 +26,7 @@ strokes-append m p (d ∷ ds) es = ap (λ (ts : List Thing). Line (record { star
 
 -- a step more of a run
 pub stroke_more : (m : ℕ) (p at : GridPoint) (n : ℕ) (d : Dir) → at ≡ after p (replicate n d) → strokes_from m p (replicate (n + 1) d) ≡ strokes_from m p (replicate n d) ++ strokes_from m at (d ∷ [])
-stroke_more m p at n d e =
-    ap (strokes_from m p) (sym (replicate_more n d))
+stroke_more m p at n d e = ap (strokes_from m p) (sym (replicate_more n d))
     ∙ strokes-append m p (replicate n d) (d ∷ [])
     ∙ ap (λ (q : GridPoint). strokes_from m p (replicate n d) ++ strokes_from m q (d ∷ [])) (sym e)
 
@@ -51,8 +50,10 @@ strokes_met box m p (d ∷ ds) =
     ∙ sym (list_any-append (holds (wider m box)) (step_points (drawn p) d) (way_points (step_from p d) ds))
 
 -- numbered lists, one number more
-pub numbered : {A : Type 0} (f : ℕ → List A) (n : ℕ) → flat_map f (range_with_len 0 (n + 1)) ≡ flat_map f (range_with_len 0 n) ++ f n
-numbered f n = ap (flat_map f) (range_more 0 n n (omega arith)) ∙ flat_map-append f (range_with_len 0 n) (n ∷ []) ∙ ap (λ xs. flat_map f (range_with_len 0 n) ++ xs) (append-nil (f n))
+pub numbered : {A : Type 0} (f : ℕ → List A) (a n j : ℕ) → a + n ≡ j
+    → flat_map f (range_with_len a (n + 1)) ≡ flat_map f (range_with_len a n) ++ f j
+numbered f a n j e = ap (flat_map f) (range_more a n j e) ∙ flat_map-append f (range_with_len a n) (j ∷ [])
+    ∙ ap (λ xs. flat_map f (range_with_len a n) ++ xs) (append-nil (f j))
 
 pub areas-numbered : (f : ℕ → List Bounds) (n : ℕ) → areas (flat_map f (range_with_len 0 (n + 1))) ≡ areas (flat_map f (range_with_len 0 n)) ++ areas (f n)
-areas-numbered f n = ap areas (numbered f n) ∙ map-append (λ (b : Bounds). let t : Thing = Area b in t) (flat_map f (range_with_len 0 n)) (f n)
+areas-numbered f n = ap areas (numbered f 0 n n (omega arith)) ∙ map-append (λ (b : Bounds). let t : Thing = Area b in t) (flat_map f (range_with_len 0 n)) (f n)

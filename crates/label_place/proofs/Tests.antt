@@ -1,47 +1,14 @@
 -- Tests of some element of a list.
 use Rattle.std.proofs.Common.{◌≡◌, ℕ, zero, suc, ◌+◌, ◌<◌, ◌≤◌, Bool, true, false, ◌&&◌, ◌||◌, List, [], ◌∷◌, map, refl, ap, sym, ◌∙◌, inl, inr, arith}
 use Rattle.std.specs.List.{list_any, flat_map, range_with_len}
+use Rattle.std.proofs.Math.Bool.{and-or_distrib_right}
 use Rattle.std.proofs.lemmas.Bool.{or_left, or_right, or_from, or_cases, cases_lt}
 use Rattle.std.proofs.lemmas.List.Folds.{list_any-append}
-use Rattle.svg_writer.proofs.Ranges.{range_more}
-
-pub or_false : (b : Bool) → (b || false) ≡ b
-or_false true = refl
-or_false false = refl
-
-pub and_true : (b : Bool) → (b && true) ≡ b
-and_true true = refl
-and_true false = refl
-
-pub and_false : (b : Bool) → (b && false) ≡ false
-and_false true = refl
-and_false false = refl
-
-pub or_assoc : (a b c : Bool) → ((a || b) || c) ≡ (a || (b || c))
-or_assoc true b c = refl
-or_assoc false b c = refl
-
-pub and_assoc : (a b c : Bool) → ((a && b) && c) ≡ (a && (b && c))
-and_assoc true b c = refl
-and_assoc false b c = refl
-
-pub and_swap : (a b : Bool) → (a && b) ≡ (b && a)
-and_swap true true = refl
-and_swap true false = refl
-and_swap false true = refl
-and_swap false false = refl
 
 or_mixed : (a b c d : Bool) → ((a || b) || (c || d)) ≡ ((a || c) || (b || d))
 or_mixed true b c d = refl
 or_mixed false true true d = refl
-or_mixed false true false d = refl
-or_mixed false false c d = refl
-
-pub and_or : (a b c : Bool) → ((a || b) && c) ≡ ((a && c) || (b && c))
-and_or true b true = refl
-and_or true true false = refl
-and_or true false false = refl
-and_or false b c = refl
+or_mixed a b c d = refl
 
 pub and_same : (a b c d : Bool) → a ≡ c → b ≡ d → (a && b) ≡ (c && d)
 and_same a b c d e f = ap (λ (x : Bool). x && b) e ∙ ap (λ (x : Bool). c && x) f
@@ -63,7 +30,7 @@ any_never (x ∷ xs) = any_never xs
 
 pub any_and : {X : Type 0} (f : X → Bool) (b : Bool) (xs : List X) → list_any (λ (x : X). f x && b) xs ≡ (list_any f xs && b)
 any_and f b [] = refl
-any_and f b (x ∷ xs) = ap (λ (c : Bool). (f x && b) || c) (any_and f b xs) ∙ sym (and_or (f x) (list_any f xs) b)
+any_and f b (x ∷ xs) = ap (λ (c : Bool). (f x && b) || c) (any_and f b xs) ∙ sym (and-or_distrib_right (f x) (list_any f xs) b)
 
 pub any_map : {X Y : Type 0} (f : Y → Bool) (g : X → Y) (xs : List X) → list_any f (map g xs) ≡ list_any (λ (x : X). f (g x)) xs
 any_map f g [] = refl
@@ -76,11 +43,10 @@ any_flat f g (x ∷ xs) = list_any-append f (g x) (flat_map g xs) ∙ ap (λ (b 
 -- a number of a range passes
 pub any_in_range : (f : ℕ → Bool) (a n t : ℕ) → a ≤ t → t < a + n → f t ≡ true → list_any f (range_with_len a n) ≡ true
 any_in_range f a zero t low high e = absurd (omega arith)
-any_in_range f a (suc n) t low high e =
-    elim (cases_lt a t) [
-      | inl h ↦ or_right (f a) _ (any_in_range f (a + 1) n t (omega arith) (omega arith) e)
-      | inr h ↦ (let same : a ≡ t = omega arith in or_left (f a) _ (ap f same ∙ e))
-    ]
+any_in_range f a (suc n) t low high e = elim (cases_lt a t) [
+  | inl h ↦ or_right (f a) _ (any_in_range f (a + 1) n t (omega arith) (omega arith) e)
+  | inr h ↦ (let same : a ≡ t = omega arith in or_left (f a) _ (ap f same ∙ e))
+]
 
 -- no number of a range passes
 pub none_in_range : (f : ℕ → Bool) (a n : ℕ) → ((t : ℕ) → a ≤ t → t < a + n → f t ≡ false) → list_any f (range_with_len a n) ≡ false
@@ -90,16 +56,10 @@ none_in_range f a (suc n) h = or_from (f a) _ (h a (omega arith) (omega arith)) 
 -- a range has a number that passes
 pub some_of_range : (f : ℕ → Bool) (a n : ℕ) → list_any f (range_with_len a n) ≡ true → (t : ℕ) × (t < a + n) × (f t ≡ true)
 some_of_range f a zero e = cc
-some_of_range f a (suc n) e =
-    elim (or_cases (f a) _ e) [
-      | inl h ↦ (a, omega arith, h)
-      | inr h ↦ (let r = some_of_range f (a + 1) n h in (r.0, omega (arith, r.1), r.2))
-    ]
-
--- one number more
-pub any_range_more : (f : ℕ → Bool) (a n j : ℕ) → a + n ≡ j → list_any f (range_with_len a (n + 1)) ≡ (list_any f (range_with_len a n) || f j)
-any_range_more f a n j e =
-    ap (list_any f) (range_more a n j e) ∙ list_any-append f (range_with_len a n) (j ∷ []) ∙ ap (λ (b : Bool). list_any f (range_with_len a n) || b) (or_false (f j))
+some_of_range f a (suc n) e = elim (or_cases (f a) _ e) [
+  | inl h ↦ (a, omega arith, h)
+  | inr h ↦ (let r = some_of_range f (a + 1) n h in (r.0, omega (arith, r.1), r.2))
+]
 
 -- two tests that agree on a range
 pub same_in_range : (f g : ℕ → Bool) (a n : ℕ) → ((t : ℕ) → t < a + n → f t ≡ g t) → list_any f (range_with_len a n) ≡ list_any g (range_with_len a n)

@@ -4,6 +4,7 @@ use Rattle.std.specs.Prelude.{int_le, unsigned_abs}
 use Rattle.std.specs.Int.{int_min, int_max}
 use Rattle.std.specs.List.{list_any, range_with_len}
 use Rattle.std.proofs.lemmas.Int.{ints}
+use Rattle.std.proofs.Math.Bool.{and_assoc, and_comm}
 use Rattle.std.proofs.lemmas.Bool.{and_parts, and_from, cases_Bool, both_ways, false_from_ne_true}
 use Rattle.octi_grid.specs.declared.dir.Dir.{Dir}
 use Rattle.octi_grid.specs.declared.dir.Dir.TheVariants as dir
@@ -14,7 +15,7 @@ use Rattle.label_place.specs.declared.strokes.Times.{Times}
 use Rattle.label_place.specs.Boxes.{holds}
 use Rattle.label_place.specs.Strokes.{point_on, step_points, units}
 use Rattle.label_place.specs.Grids.{south_of, times, some_time, holds_some}
-use Rattle.label_place.proofs.Tests.{and_same, and_assoc, and_swap, any_map, same_in_range, any_in_range, none_in_range}
+use Rattle.label_place.proofs.Tests.{and_same, any_map, same_in_range, any_in_range, none_in_range}
 use Rattle.label_place.proofs.Orders.{le_true, le_from, le_same, le_trans, max_le, le_min, max_first, max_second, min_first, min_second}
 
 abbrev between : ℤ → ℤ → ℤ → Bool
@@ -34,7 +35,7 @@ falls from low high z t e =
     and_same (int_le low z) (int_le z high) (int_le (pos t) (from -ℤ low)) (int_le (from -ℤ high) (pos t))
     (le_same low z (pos t) (from -ℤ low) (λ h. omega (arith, ints)) (λ h. omega (arith, ints)))
     (le_same z high (from -ℤ high) (pos t) (λ h. omega (arith, ints)) (λ h. omega (arith, ints)))
-    ∙ and_swap (int_le (pos t) (from -ℤ low)) (int_le (from -ℤ high) (pos t))
+    ∙ and_comm (int_le (pos t) (from -ℤ low)) (int_le (from -ℤ high) (pos t))
 
 abbrev always : Times
 always = record { first = pos 0; last = pos 100 }
@@ -55,19 +56,15 @@ across dir.NE from low high t h = rises from low high _ t (omega (arith, ints))
 across dir.E from low high t h = rises from low high _ t (omega (arith, ints))
 across dir.SE from low high t h = rises from low high _ t (omega (arith, ints))
 across dir.S from low high t h = stays from low high _ t h (omega (arith, ints))
-across dir.SW from low high t h = falls from low high _ t (omega (arith, ints))
-across dir.W from low high t h = falls from low high _ t (omega (arith, ints))
-across dir.NW from low high t h = falls from low high _ t (omega (arith, ints))
+across d from low high t h = falls from low high _ t (omega (arith, ints))
 
 down : (d : Dir) (from low high : ℤ) (t : ℕ) → t ≤ 100 → between low (from -ℤ (pos t *ℤ north_of d)) high ≡ at_time (times from (south_of d) low high) t
-down dir.N from low high t h = falls from low high _ t (omega (arith, ints))
-down dir.NE from low high t h = falls from low high _ t (omega (arith, ints))
 down dir.E from low high t h = stays from low high _ t h (omega (arith, ints))
 down dir.SE from low high t h = rises from low high _ t (omega (arith, ints))
 down dir.S from low high t h = rises from low high _ t (omega (arith, ints))
 down dir.SW from low high t h = rises from low high _ t (omega (arith, ints))
 down dir.W from low high t h = stays from low high _ t h (omega (arith, ints))
-down dir.NW from low high t h = falls from low high _ t (omega (arith, ints))
+down d from low high t h = falls from low high _ t (omega (arith, ints))
 
 -- a point lies in a box at the times at which both coordinates do
 held_when : (b : Bounds) (start : Corner) (d : Dir) (t : ℕ) → t ≤ 100

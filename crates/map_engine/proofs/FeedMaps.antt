@@ -69,15 +69,14 @@ module _ (feed : Feed) (choices : Choices) (graph : GraphParts)
     abbrev pub certified_of : (claim : Claim) (svg bytes : List ℕ) (proved : Proved)
         → IsCertifiedOn (subject_of feed choices) choices claim graph svg bytes proved
         → IsCertified feed choices claim svg bytes proved
-    certified_of claim svg bytes proved is =
-        record {
-          certificate = is.certificate;
-          written = is.written;
-          graph = graph;
-          of_feed = of_feed;
-          kept = kept;
-          shows = is.shows;
-        }
+    certified_of claim svg bytes proved is = record {
+      certificate = is.certificate;
+      written = is.written;
+      graph = graph;
+      of_feed = of_feed;
+      kept = kept;
+      shows = is.shows;
+    }
 
     pub shown_of : (claim : Claim) (svg bytes : List ℕ) (proved : Proved)
         → IsCertifiedOn (subject_of feed choices) choices claim graph svg bytes proved
@@ -86,8 +85,7 @@ module _ (feed : Feed) (choices : Choices) (graph : GraphParts)
       graph = graph;
       of_feed = of_feed;
       kept = kept;
-      shows = certified_shows
-          (subject_of feed choices) choices claim graph svg bytes proved is;
+      shows = certified_shows (subject_of feed choices) choices claim graph is.certificate svg proved is.shows;
     }
 
     pub made_of : (claim : Claim) (made : MapBytes) → IsMadeOn (subject_of feed choices) choices claim graph made

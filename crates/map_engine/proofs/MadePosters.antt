@@ -37,8 +37,7 @@ module _ (feed : Feed) (choices : Choices) (claim : Claim) (graph : GraphParts) 
   -- a certificate is given as it was read
   given : (c : PlainCertificate) (r : Result PlainCertificate CheckFault) → accepted (Ok c) ≡ r
       → made_of (λ (x : PlainCertificate). c) r ≡ r
-  given c r is =
-      ap (made_of (λ (x : PlainCertificate). c)) (sym is)
+  given c r is = ap (made_of (λ (x : PlainCertificate). c)) (sym is)
       ∙ sym (text_made (λ (x : PlainCertificate). c) (importance_by feed choices) choices claim graph
       (λ (x : PlainCertificate). x) (Ok c)) ∙ is
 
@@ -46,14 +45,12 @@ module _ (feed : Feed) (choices : Choices) (claim : Claim) (graph : GraphParts) 
   poster_there : (svg : List ℕ) (c : PlainCertificate) (read : Result PlainCertificate ℕ) (proved : Proved) → read ≡ Ok c
       → pictured svg (checked_text feed choices claim graph read) ≡ Ok proved
       → postered_items feed choices claim graph read ≡ Ok (postered_by feed graph c)
-  poster_there svg c read proved is passed =
-      ap (postered_items feed choices claim graph) is ∙ posters (Ok c)
+  poster_there svg c read proved is passed = ap (postered_items feed choices claim graph) is ∙ posters (Ok c)
       ∙ by (accepted (Ok c)) refl
       (sym (ap (λ (r : Result PlainCertificate ℕ). pictured svg (checked_text feed choices claim graph r)) is
       ∙ ap (pictured svg) (checks (Ok c))) ∙ passed)
     where
-      by : (r : Result PlainCertificate CheckFault) → accepted (Ok c) ≡ r
-          → pictured svg (made_of due r) ≡ Ok proved
+      by : (r : Result PlainCertificate CheckFault) → accepted (Ok c) ≡ r → pictured svg (made_of due r) ≡ Ok proved
           → made_of (postered_by feed graph) r ≡ Ok (postered_by feed graph c)
       by (Ok x) was passed = ap (made_of (postered_by feed graph)) (sym (given c (Ok x) was))
       by (Err stop) was passed = cc

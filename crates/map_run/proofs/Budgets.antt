@@ -1,6 +1,6 @@
 -- What is loaded over other settings where the user sets none: the same tables, settings that differ in the budget alone, and
 -- the same is to be proved.
-use Rattle.std.proofs.Common.{◌≡◌, ℕ, Bool, true, false, List, [], ◌∷◌, codes, if◌then◌else◌, Option, None, Some, option_map, Result, Ok, Err, refl, sym, ap, ◌∙◌, subst}
+use Rattle.std.proofs.Common.{◌≡◌, ℕ, Bool, true, false, List, [], ◌∷◌, codes, if◌then◌else◌, Option, None, Some, option_map, IfSome, Result, Ok, Err, refl, sym, ap, ◌∙◌, subst}
 use Rattle.std.specs.Str.{bytes_eq}
 use Rattle.map_base.specs.Settings.{Choices}
 use Rattle.map_method.specs.declared.defaults.Defaults.{Defaults}
@@ -27,7 +27,7 @@ use Rattle.run_status.specs.declared.refusal.Refusal.TheVariants as refused
 use Rattle.command_inputs.specs.declared.loaded.Loaded.{Loaded}
 use Rattle.command_inputs.specs.Loading.{changed_by, changed_in, edited_by, edits_of, feed_work, file_outcome, load_work, settings_by, settings_given, settings_in, tables_work}
 
-abbrev Given : Type 0
+abbrev pub Given : Type 0
 Given = Input → Option (List ℕ)
 
 -- the two differ in the budget at most
@@ -39,29 +39,27 @@ AreAlike a b = (record a { budget = b.budget }) ≡ b
 abbrev IsTame : (Choices → Choices) → Type 0
 IsTame change = (a b : Choices) → AreAlike a b → AreAlike (change a) (change b)
 
-abbrev AreTame : Option (Choices → Choices) → Type 0
-AreTame None = Unit {0}
-AreTame (Some change) = IsTame change
+-- what each change passes, the change by a value passes, where there is one
+each_passes : {A B : Type 0} (P : B → Type 0) (change : A → B) (value : Option A) → ((a : A) → P (change a))
+    → IfSome (option_map change value) P
+each_passes P change None each = tt
+each_passes P change (Some a) each = each a
 
-tame_map : {A : Type 0} (change : A → Choices → Choices) (value : Option A) → ((a : A) → IsTame (change a)) → AreTame (option_map change value)
-tame_map change None each = tt
-tame_map change (Some a) each = each a
-
-settings_tame : (entry : List ℕ × Data) → AreTame (settings_change entry)
+settings_tame : (entry : List ℕ × Data) → IfSome (settings_change entry) IsTame
 settings_tame entry =
     by_tests (bytes_eq entry.0 (codes "near")) (bytes_eq entry.0 (codes "cell")) (bytes_eq entry.0 (codes "budget")) (bytes_eq entry.0 (codes "types")) (bytes_eq entry.0 (codes "junction")) (bytes_eq entry.0 (codes "station")) (bytes_eq entry.0 (codes "importance"))
   where
     by_tests : (near cell budget types junction station importance : Bool)
-        → AreTame (if near then option_map near_is (near_of entry.1) else if cell then option_map cell_is (cell_of entry.1) else if budget then option_map budget_is (budget_of entry.1)
+        → IfSome (if near then option_map near_is (near_of entry.1) else if cell then option_map cell_is (cell_of entry.1) else if budget then option_map budget_is (budget_of entry.1)
         else if types then option_map types_are (types_of entry.1) else if junction then option_map junction_is (weights_of entry.1) else if station then option_map station_is (weights_of entry.1)
-        else if importance then option_map importance_is (importance_of entry.1) else None)
-    by_tests true cell budget types junction station importance = tame_map near_is (near_of entry.1) (λ v a b e. ap (near_is v) e)
-    by_tests false true budget types junction station importance = tame_map cell_is (cell_of entry.1) (λ v a b e. ap (cell_is v) e)
-    by_tests false false true types junction station importance = tame_map budget_is (budget_of entry.1) (λ v a b e. ap (budget_is v) e)
-    by_tests false false false true junction station importance = tame_map types_are (types_of entry.1) (λ v a b e. ap (types_are v) e)
-    by_tests false false false false true station importance = tame_map junction_is (weights_of entry.1) (λ v a b e. ap (junction_is v) e)
-    by_tests false false false false false true importance = tame_map station_is (weights_of entry.1) (λ v a b e. ap (station_is v) e)
-    by_tests false false false false false false true = tame_map importance_is (importance_of entry.1) (λ v a b e. ap (importance_is v) e)
+        else if importance then option_map importance_is (importance_of entry.1) else None) IsTame
+    by_tests true cell budget types junction station importance = each_passes IsTame near_is (near_of entry.1) (λ v a b e. ap (near_is v) e)
+    by_tests false true budget types junction station importance = each_passes IsTame cell_is (cell_of entry.1) (λ v a b e. ap (cell_is v) e)
+    by_tests false false true types junction station importance = each_passes IsTame budget_is (budget_of entry.1) (λ v a b e. ap (budget_is v) e)
+    by_tests false false false true junction station importance = each_passes IsTame types_are (types_of entry.1) (λ v a b e. ap (types_are v) e)
+    by_tests false false false false true station importance = each_passes IsTame junction_is (weights_of entry.1) (λ v a b e. ap (junction_is v) e)
+    by_tests false false false false false true importance = each_passes IsTame station_is (weights_of entry.1) (λ v a b e. ap (station_is v) e)
+    by_tests false false false false false false true = each_passes IsTame importance_is (importance_of entry.1) (λ v a b e. ap (importance_is v) e)
     by_tests false false false false false false false = tt
 
 -- Nor does it tell apart what is to be proved.
@@ -69,27 +67,19 @@ settings_tame entry =
 abbrev KeepsClaim : (MethodChoices → MethodChoices) → Type 0
 KeepsClaim change = (a b : MethodChoices) → a.claim ≡ b.claim → (change a).claim ≡ (change b).claim
 
-abbrev KeepClaim : Option (MethodChoices → MethodChoices) → Type 0
-KeepClaim None = Unit {0}
-KeepClaim (Some change) = KeepsClaim change
-
-claim_kept : {A : Type 0} (change : A → MethodChoices → MethodChoices) (value : Option A) → ((a : A) → KeepsClaim (change a)) → KeepClaim (option_map change value)
-claim_kept change None each = tt
-claim_kept change (Some a) each = each a
-
-method_tame : (entry : List ℕ × Data) → KeepClaim (method_change entry)
+method_tame : (entry : List ℕ × Data) → IfSome (method_change entry) KeepsClaim
 method_tame entry =
     by_tests (bytes_eq entry.0 (codes "search")) (bytes_eq entry.0 (codes "proof")) (bytes_eq entry.0 (codes "spread")) (bytes_eq entry.0 (codes "finest")) (bytes_eq entry.0 (codes "straight")) (bytes_eq entry.0 (codes "moves"))
   where
     by_tests : (search proof spread finest straight moves : Bool)
-        → KeepClaim (if search then option_map search_is (search_of entry.1) else if proof then option_map claim_is (claim_of entry.1) else if spread then option_map spread_is (spread_of entry.1)
-        else if finest then option_map finest_is (finest_of entry.1) else if straight then option_map straight_is (straight_of entry.1) else if moves then option_map moves_are (moves_of entry.1) else None)
-    by_tests true proof spread finest straight moves = claim_kept search_is (search_of entry.1) (λ v a b e. e)
-    by_tests false true spread finest straight moves = claim_kept claim_is (claim_of entry.1) (λ v a b e. refl)
-    by_tests false false true finest straight moves = claim_kept spread_is (spread_of entry.1) (λ v a b e. e)
-    by_tests false false false true straight moves = claim_kept finest_is (finest_of entry.1) (λ v a b e. e)
-    by_tests false false false false true moves = claim_kept straight_is (straight_of entry.1) (λ v a b e. e)
-    by_tests false false false false false true = claim_kept moves_are (moves_of entry.1) (λ v a b e. e)
+        → IfSome (if search then option_map search_is (search_of entry.1) else if proof then option_map claim_is (claim_of entry.1) else if spread then option_map spread_is (spread_of entry.1)
+        else if finest then option_map finest_is (finest_of entry.1) else if straight then option_map straight_is (straight_of entry.1) else if moves then option_map moves_are (moves_of entry.1) else None) KeepsClaim
+    by_tests true proof spread finest straight moves = each_passes KeepsClaim search_is (search_of entry.1) (λ v a b e. e)
+    by_tests false true spread finest straight moves = each_passes KeepsClaim claim_is (claim_of entry.1) (λ v a b e. refl)
+    by_tests false false true finest straight moves = each_passes KeepsClaim spread_is (spread_of entry.1) (λ v a b e. e)
+    by_tests false false false true straight moves = each_passes KeepsClaim finest_is (finest_of entry.1) (λ v a b e. e)
+    by_tests false false false false true moves = each_passes KeepsClaim straight_is (straight_of entry.1) (λ v a b e. e)
+    by_tests false false false false false true = each_passes KeepsClaim moves_are (moves_of entry.1) (λ v a b e. e)
     by_tests false false false false false false = tt
 
 -- the settings are alike, and the same is to be proved
@@ -99,11 +89,11 @@ Alike x y = AreAlike x.settings y.settings × (x.method.claim ≡ y.method.claim
 change_alike : (entry : List ℕ × Data) (x y : MapSettings) → Alike x y → Alike (changed (change_of entry) x) (changed (change_of entry) y)
 change_alike entry x y alike = by_test (is_of_method entry.0)
   where
-    of_method : (change : Option (MethodChoices → MethodChoices)) → KeepClaim change → Alike (changed (option_map in_method change) x) (changed (option_map in_method change) y)
+    of_method : (change : Option (MethodChoices → MethodChoices)) → IfSome change KeepsClaim → Alike (changed (option_map in_method change) x) (changed (option_map in_method change) y)
     of_method None keeps = alike
     of_method (Some change) keeps = (alike.0, keeps x.method y.method alike.1)
 
-    of_settings : (change : Option (Choices → Choices)) → AreTame change → Alike (changed (option_map in_settings change) x) (changed (option_map in_settings change) y)
+    of_settings : (change : Option (Choices → Choices)) → IfSome change IsTame → Alike (changed (option_map in_settings change) x) (changed (option_map in_settings change) y)
     of_settings None tame = alike
     of_settings (Some change) tame = (tame x.settings y.settings alike.0, alike.1)
 
@@ -117,11 +107,10 @@ after_alike [] x y alike = alike
 after_alike (entry ∷ file) x y alike = after_alike file (changed (change_of entry) x) (changed (change_of entry) y) (change_alike entry x y alike)
 
 -- both are refused for one reason, or neither is, and the two are alike
-abbrev AlikeBy : {A : Type 0} → (A → A → Type 0) → Result A Refusal → Result A Refusal → Type 0
+abbrev AlikeBy : {A E : Type 0} → (A → A → Type 0) → Result A E → Result A E → Type 0
 AlikeBy same (Ok x) (Ok y) = same x y
-AlikeBy same (Ok x) (Err why) = ⊥
-AlikeBy same (Err why) (Ok y) = ⊥
 AlikeBy same (Err why) (Err other) = why ≡ other
+AlikeBy same x y = ⊥
 
 -- the settings of every command are
 defaults_alike : (c d : Defaults) → Alike (default_choices c) (default_choices d)
@@ -130,38 +119,29 @@ defaults_alike Make Map = (refl, refl)
 defaults_alike Map Make = (refl, refl)
 defaults_alike Map Map = (refl, refl)
 
--- both are refused for one reason, or neither is, and the two are alike
-abbrev AreAlikeReadings : Result MapSettings SettingsWhy → Result MapSettings SettingsWhy → Type 0
-AreAlikeReadings (Ok x) (Ok y) = Alike x y
-AreAlikeReadings (Ok x) (Err why) = ⊥
-AreAlikeReadings (Err why) (Ok y) = ⊥
-AreAlikeReadings (Err why) (Err other) = why ≡ other
-
 -- a text makes alike settings of alike ones
-text_alike : (x y : MapSettings) (bytes : List ℕ) → Alike x y → AreAlikeReadings (set_outcome x bytes) (set_outcome y bytes)
+text_alike : (x y : MapSettings) (bytes : List ℕ) → Alike x y → AlikeBy Alike (set_outcome x bytes) (set_outcome y bytes)
 text_alike x y bytes alike = by_table (table_outcome bytes)
   where
-    by_table : (table : Option Members) → AreAlikeReadings (with_table x table) (with_table y table)
+    by_table : (table : Option Members) → AlikeBy Alike (with_table x table) (with_table y table)
     by_table None = refl
     by_table (Some table) = by_bad (least (bad_keys (entries table)))
       where
-        by_bad : (bad : Option (List ℕ)) → AreAlikeReadings (unless_bad bad (after (entries table) x)) (unless_bad bad (after (entries table) y))
+        by_bad : (bad : Option (List ℕ)) → AlikeBy Alike (unless_bad bad (after (entries table) x)) (unless_bad bad (after (entries table) y))
         by_bad None = after_alike (entries table) x y alike
         by_bad (Some key) = refl
 
 -- and so do texts one after another
-sets_alike : (sets : List (List ℕ)) (x y : Result MapSettings SettingsWhy) → AreAlikeReadings x y → AreAlikeReadings (sets_outcome sets x) (sets_outcome sets y)
+sets_alike : (sets : List (List ℕ)) (x y : Result MapSettings SettingsWhy) → AlikeBy Alike x y → AlikeBy Alike (sets_outcome sets x) (sets_outcome sets y)
 sets_alike [] x y alike = alike
 sets_alike (text ∷ more) (Ok x) (Ok y) alike = sets_alike more (set_outcome x text) (set_outcome y text) (text_alike x y text alike)
-sets_alike (text ∷ more) (Ok x) (Err why) alike = absurd alike
-sets_alike (text ∷ more) (Err why) (Ok y) alike = absurd alike
 sets_alike (text ∷ more) (Err why) (Err other) alike = alike
+sets_alike (text ∷ more) x y alike = absurd alike
 
-given_alike : (x y : Result MapSettings SettingsWhy) → AreAlikeReadings x y → AlikeBy Alike (settings_given x) (settings_given y)
-given_alike (Ok x) (Ok y) alike = alike
-given_alike (Ok x) (Err why) alike = alike
-given_alike (Err why) (Ok y) alike = alike
+given_alike : (x y : Result MapSettings SettingsWhy) → AlikeBy Alike x y → AlikeBy Alike (settings_given x) (settings_given y)
 given_alike (Err why) (Err other) alike = ap (λ (w : SettingsWhy). refused.BadSettings w) alike
+given_alike (Ok x) (Ok y) alike = alike
+given_alike x y alike = absurd alike
 
 file_alike : (c d : Defaults) (sets : List (List ℕ)) (file : Option (List ℕ)) → AlikeBy Alike (settings_in c sets file) (settings_in d sets file)
 file_alike c d sets None = refl
@@ -172,7 +152,7 @@ file_alike c d sets (Some bytes) =
 -- Works over alike settings.
 
 -- what follows a piece of work, by what that comes to
-bound : {A B : Type 0} (first : Work Input Refusal A) (next : A → Work Input Refusal B) (given : Given) → outcome (first >>= next) given ≡ outcome (ends (outcome first given) >>= next) given
+pub bound : {A B : Type 0} (first : Work Input Refusal A) (next : A → Work Input Refusal B) (given : Given) → outcome (first >>= next) given ≡ outcome (ends (outcome first given) >>= next) given
 bound (ends (Ok value)) next given = refl
 bound (ends (Err why)) next given = refl
 bound (reads one rest) next given = bound (rest (given one)) next given
@@ -225,23 +205,13 @@ feed_alike chosen d given =
   where
     by_settings : (x y : Result MapSettings Refusal) → AlikeBy Alike x y → AlikeBy AreLoadedAlike (outcome (ends x >>= tables_as) given) (outcome (ends y >>= tables_as) given)
     by_settings (Ok x) (Ok y) alike = tables_alike x y given alike
-    by_settings (Ok x) (Err why) alike = absurd alike
-    by_settings (Err why) (Ok y) alike = absurd alike
     by_settings (Err why) (Err other) alike = alike
+    by_settings x y alike = absurd alike
 
 -- edits make alike settings of alike ones
 edit_tame : (one : Edit) → IsTame (choices_by one)
 edit_tame (edit.Hide id) a b e = e
-edit_tame (edit.Show id) a b e = e
-edit_tame (edit.Weight station weights) a b e = ap (choices_by (edit.Weight station weights)) e
-edit_tame (edit.Near near) a b e = ap (choices_by (edit.Near near)) e
-edit_tame (edit.Cell cell) a b e = ap (choices_by (edit.Cell cell)) e
-edit_tame (edit.Budget budget) a b e = ap (choices_by (edit.Budget budget)) e
-edit_tame (edit.Rename id name) a b e = e
-edit_tame (edit.Move id lat lon) a b e = e
-edit_tame (edit.Colour id colour) a b e = e
-edit_tame (edit.Importance id number) a b e = ap (choices_by (edit.Importance id number)) e
-edit_tame edit.Undo a b e = e
+edit_tame one a b e = ap (choices_by one) e
 
 edits_alike : (edits : List Edit) (a b : Choices) → AreAlike a b → AreAlike (choices_after edits a) (choices_after edits b)
 edits_alike [] a b alike = alike
@@ -271,9 +241,8 @@ load_alike chosen d given =
   where
     by_feed : (x y : Result Loaded Refusal) → AlikeBy AreLoadedAlike x y → AlikeBy AreLoadedAlike (outcome (ends x >>= edited_by chosen.edits) given) (outcome (ends y >>= edited_by chosen.edits) given)
     by_feed (Ok x) (Ok y) alike = edited_alike x y chosen.edits given alike
-    by_feed (Ok x) (Err why) alike = absurd alike
-    by_feed (Err why) (Ok y) alike = absurd alike
     by_feed (Err why) (Err other) alike = alike
+    by_feed x y alike = absurd alike
 
 -- what is loaded over other settings where the user sets none
 pub loads_over : (chosen : Chosen) (d : Defaults) (given : Given) (loaded : Loaded) → outcome (load_work chosen) given ≡ Ok loaded

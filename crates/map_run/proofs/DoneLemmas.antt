@@ -1,13 +1,12 @@
 -- What is defined is done, where no count of faults rises.
 use Rattle.std.proofs.Common.{◌≡◌, ℕ, ◌⊎◌, inl, inr, List, [], ◌++◌, Some, Ok, sym, ap, ◌∙◌, subst}
 use Rattle.std.proofs.lemmas.List.{append-nil}
-use Rattle.files_door.specs.declared.target.Target.{Target}
-use Rattle.files_door.specs.Targets.{Written, held_by}
+use Rattle.files_door.specs.Targets.{Written}
 use Rattle.command_run.specs.declared.output.Output.{Output}
 use Rattle.command_run.specs.declared.delivery.Ending.{Ending}
 use Rattle.command_run.specs.declared.delivery.Ending.TheVariants.{Whole, CutShort, OutOfMemory}
 use Rattle.command_run.specs.Delivered.{IsDelivered}
-use Rattle.command_run.specs.Held.{held_after, line_outputs}
+use Rattle.command_run.specs.Held.{line_outputs}
 use Rattle.command_run.specs.Work.{outcome}
 use Rattle.command_run.specs.Told.{file_of}
 use Rattle.command_run.proofs.HeldLemmas.{standing_of}
@@ -20,10 +19,7 @@ use Rattle.map_run.specs.Answers.{Finished, done, answer_by, status_at, whole}
 use Rattle.map_run.specs.Commands.{work}
 use Rattle.map_run.specs.Ending.{IsLineOf, Ends, status_after}
 use Rattle.map_run.proofs.EndingLemmas.{due_of, told_answer}
-
--- the outputs stand in the targets
-abbrev Holds : List Output → Written → Written → Type 0
-Holds outputs old new = (target : Target) → held_by target new ≡ held_after target outputs (held_by target old)
+use Rattle.map_run.proofs.LawLemmas.{Holds}
 
 -- the run has the status of the end that the command came to, and each target holds its outputs and the line of the status;
 -- or memory ran out

@@ -17,7 +17,7 @@ use Rattle.run_status.specs.declared.status.Status.TheVariants as status
 use Rattle.command_words.specs.declared.fault.WordsFault.{WordsFault}
 use Rattle.command_words.specs.declared.fault.WordsFault.TheVariants as fault
 use Rattle.command_words.specs.Words.{Reads as ReadsWords}
-use Rattle.command_words.specs.Asked.{Asked, stations, graph, export, imported, make, improve, check, depict, session, trial, page}
+use Rattle.command_words.specs.Asked.{Asked, imported, make, improve, session, trial}
 use Rattle.asked_inputs.specs.Inputs.{input_path}
 use Rattle.map_run.specs.Answers.{Finished, alone, done, answer_by, status_at}
 use Rattle.run_status.specs.Statuses.{status_of}
@@ -27,7 +27,7 @@ use Rattle.map_run.specs.Promises.{Keeps, TakesSteps}
 use Rattle.map_run.specs.Ending.{IsAnswerTo, IsDue, IsWritten, IsEndWritten, IsLeft, IsOutOfMemory, Ends, IsCaused, status_after}
 use Rattle.run_status.proofs.FollowLemmas.{comes_to}
 
-abbrev Told : Type 0
+abbrev pub Told : Type 0
 Told = Option (List (List ℕ × List ℕ))
 
 -- what is answered is due
@@ -61,18 +61,12 @@ unread_ends told asked f files_rose sinks_rose old new ended reads (inr out) = i
 
 -- no step is none too many
 pub no_steps : (told : Told) (asked : Option Asked) (steps : ℕ) → TakesSteps told asked steps steps
-no_steps told None steps = refl
-no_steps told (Some (stations feed)) steps = refl
-no_steps told (Some (graph feed chosen)) steps = refl
-no_steps told (Some (export feed out chosen)) steps = refl
 no_steps told (Some (imported json paths chosen)) steps = inl refl
 no_steps told (Some (make feed paths chosen)) steps = inl refl
 no_steps told (Some (improve feed paths moves chosen)) steps = inl refl
-no_steps told (Some (check feed paths chosen)) steps = refl
-no_steps told (Some (depict kind feed certificate out chosen)) steps = refl
 no_steps told (Some (session feed script out chosen)) steps = inl refl
 no_steps told (Some (trial number)) steps = inl refl
-no_steps told (Some (page shown html)) steps = refl
+no_steps told asked steps = refl
 
 -- the cause of the status of an answer
 answer_caused : (asked : Option Asked) (told : Told) (files_rose sinks_rose : Type 0) (answer : Answer) → IsAnswerTo asked told files_rose answer → IsCaused asked files_rose sinks_rose answer.status
@@ -89,17 +83,9 @@ answer_caused (Some asked) told files_rose sinks_rose answer (result, comes, kee
 
     by_result : (r : Result Finished Refusal) → ComesTo told (input_path asked) files_rose (work asked) r → IsCaused (Some asked) files_rose sinks_rose (answer_by (input_path asked) r).status
     by_result (Ok finished) comes = by_line finished.bad_line
-    by_result (Err (refused.BadRow table row why)) comes = read
-    by_result (Err (refused.NoRoute seg)) comes = read
-    by_result (Err (refused.Spent component branches)) comes = read
-    by_result (Err (refused.Limit limit)) comes = read
-    by_result (Err (refused.Refuted item)) comes = read
-    by_result (Err (refused.BadSettings why)) comes = read
-    by_result (Err (refused.BadGraph why)) comes = read
-    by_result (Err (refused.BadEdit line)) comes = read
-    by_result (Err (refused.Missing input)) comes = read
     by_result (Err (refused.ReadFault input)) comes = (comes.0, (asked, input, refl, refl, (comes.1.seen, comes.1.runs)))
     by_result (Err refused.NoMemory) comes = tt
+    by_result (Err why) comes = read
 
 after_caused : (asked : Option Asked) (told : Told) (files_rose sinks_rose : Type 0) (answer : Answer) (line : List ℕ) (old new : Option Written) (ending : Ending)
     → IsAnswerTo asked told files_rose answer → IsDelivered answer.outputs line sinks_rose old new ending → IsCaused asked files_rose sinks_rose (status_after answer.status ending)

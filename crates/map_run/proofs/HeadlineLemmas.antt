@@ -16,7 +16,7 @@ use Rattle.run_status.specs.declared.refusal.Refusal.{Refusal}
 use Rattle.run_status.specs.declared.refusal.Refusal.TheVariants as refused
 use Rattle.run_status.specs.declared.status.Status.{Status}
 use Rattle.run_status.specs.declared.status.Status.TheVariants as status
-use Rattle.command_words.specs.Asked.{Asked, stations, graph, export, imported, make, improve, check, depict, session, trial, page}
+use Rattle.command_words.specs.Asked.{Asked, imported, make, improve, check, depict, session, page}
 use Rattle.command_paths.specs.Paths.{MapPaths}
 use Rattle.command_words.specs.Words.{asked, asked_in}
 use Rattle.command_words.proofs.Apart.{AreApart, AreNewApart, asked_apart}
@@ -29,10 +29,8 @@ use Rattle.run_status.specs.Statuses.{status_of}
 use Rattle.map_run.specs.Promises.{Keeps, Promised}
 use Rattle.map_run.specs.Ending.{Ends, IsLineOf}
 use Rattle.map_run.specs.Headline.{MeansDone}
-use Rattle.map_run.proofs.LawLemmas.{leaves_whole}
-
-abbrev Told : Type 0
-Told = Option (List (List ℕ × List ℕ))
+use Rattle.map_run.proofs.EndingLemmas.{Told}
+use Rattle.map_run.proofs.LawLemmas.{leaves_whole, Holds}
 
 -- what targets hold after the outputs of a map
 
@@ -108,27 +106,9 @@ no_front (output ∷ front) line is begins = absurd (subst (λ (l : List ℕ). I
 -- no refusal has the status of work that is done
 refusal_not_done : (paths : Input → List ℕ) (why : Refusal) → status_of paths why ≢ status.Done
 refusal_not_done paths (refused.BadRow table row why) same = cc
-refusal_not_done paths (refused.NoRoute seg) same = cc
-refusal_not_done paths (refused.Spent component branches) same = cc
-refusal_not_done paths (refused.Limit limit) same = cc
-refusal_not_done paths (refused.Refuted item) same = cc
-refusal_not_done paths (refused.BadSettings why) same = cc
-refusal_not_done paths (refused.BadEdit line) same = cc
-refusal_not_done paths (refused.BadGraph why) same = cc
-refusal_not_done paths (refused.Missing input) same = cc
-refusal_not_done paths (refused.ReadFault input) same = cc
-refusal_not_done paths refused.NoMemory same = cc
-
--- the outputs stand in the targets
-abbrev Holds : List Output → Written → Written → Type 0
-Holds outputs old new = (target : Target) → held_by target new ≡ held_after target outputs (held_by target old)
+refusal_not_done paths why same = cc
 
 means : (told : Told) (command : Asked) (finished : Finished) (old new : Written) → AreApart (Some command) → Promised told command finished → finished.bad_line ≡ None → Holds finished.outputs old new → MeansDone told command old new
-means told (stations feed) finished old new apart promised none holds = tt
-means told (graph feed chosen) finished old new apart promised none holds = tt
-means told (export feed out chosen) finished old new apart promised none holds = tt
-means told (trial number) finished old new apart promised none holds = tt
-means told (page shown html) finished old new apart promised none holds = tt
 means told (imported json paths chosen) finished old new apart promised none holds =
     let has = subst (λ (o : List Output). Holds o old new) promised.are holds in
     record {
@@ -200,6 +180,7 @@ means told (session feed script out chosen) finished old new apart promised none
       kept = promised.kept;
       holds = has (Path out) ∙ one_held out (session_text promised.loaded promised.script) (held_by (Path out) old);
     }
+means told command finished old new apart promised none holds = tt
 
 -- an answer with status 0 is that of an end without a bad line, which keeps what the command promises
 abbrev IsKept : Told → Asked → Answer → Type 0

@@ -21,13 +21,10 @@ use Rattle.map_run.specs.Commands.{work}
 use Rattle.asked_inputs.specs.Inputs.{input_path}
 use Rattle.map_run.specs.Answers.{Finished, answer_by, done, status_at}
 use Rattle.map_run.specs.Ending.{IsAnswerTo, IsDue, IsLeft, IsLineOf, IsToBeWritten, Ends, status_after}
-use Rattle.map_run.proofs.EndingLemmas.{due_of}
-
-abbrev Told : Type 0
-Told = Option (List (List ℕ × List ℕ))
+use Rattle.map_run.proofs.EndingLemmas.{Told, due_of}
 
 -- the outputs stand in the targets
-abbrev Holds : List Output → Written → Written → Type 0
+abbrev pub Holds : List Output → Written → Written → Type 0
 Holds outputs old new = (target : Target) → held_by target new ≡ held_after target outputs (held_by target old)
 
 -- no answer has the status of a fault of writing
@@ -38,16 +35,7 @@ line_no_fault (Some line) same = cc
 result_no_fault : (asked : Asked) (result : Result Finished Refusal) → (answer_by (input_path asked) result).status ≡ status.WriteFault → ⊥
 result_no_fault asked (Ok finished) same = line_no_fault finished.bad_line same
 result_no_fault asked (Err (refused.BadRow table row why)) same = cc
-result_no_fault asked (Err (refused.NoRoute seg)) same = cc
-result_no_fault asked (Err (refused.Spent component branches)) same = cc
-result_no_fault asked (Err (refused.Limit limit)) same = cc
-result_no_fault asked (Err (refused.Refuted item)) same = cc
-result_no_fault asked (Err (refused.BadSettings why)) same = cc
-result_no_fault asked (Err (refused.BadGraph why)) same = cc
-result_no_fault asked (Err (refused.BadEdit line)) same = cc
-result_no_fault asked (Err (refused.Missing input)) same = cc
-result_no_fault asked (Err (refused.ReadFault input)) same = cc
-result_no_fault asked (Err refused.NoMemory) same = cc
+result_no_fault asked (Err why) same = cc
 
 answer_no_fault : (asked : Option Asked) (told : Told) (rose : Type 0) (answer : Answer) → IsDue asked told rose answer → answer.status ≢ status.WriteFault
 answer_no_fault None told rose answer is same =

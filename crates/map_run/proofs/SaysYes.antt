@@ -42,7 +42,7 @@ use Rattle.command_paths.specs.Paths.{Chosen, MapPaths, NewPaths}
 use Rattle.asked_inputs.specs.Inputs.{inputs_of, input_path}
 use Rattle.map_commands.specs.MapWorks.{proved_line, printed, built, certificate_checked, certificate_work, check_work, checked_as, picture_checked, picture_work}
 use Rattle.run_status.specs.Outputs.{said}
-use Rattle.map_run.proofs.Budgets.{AreLoadedAlike, loads_over}
+use Rattle.map_run.proofs.Budgets.{AreLoadedAlike, Given, bound, loads_over}
 use Rattle.command_inputs.specs.Loading.{changed_in, edited_by, feed_work, file_outcome, given_by, load_work, settings_by, settings_in, tables_work, Loads}
 use Rattle.map_run.specs.Answers.{whole}
 use Rattle.map_run.specs.Commands.{work}
@@ -51,17 +51,11 @@ use Rattle.map_run.specs.Headline.{IsImprovedMapWritten, IsMapWritten, LieAsMade
 use Rattle.map_commands.proofs.CheckLemmas.{graph_work, with_graph, with_loaded}
 use Rattle.map_run.proofs.DoneLemmas.{is_done}
 
-abbrev Given : Type 0
-Given = Input → Option (List ℕ)
-
 -- work that comes to a value, and what follows it
-then_outcome : {A B : Type 0} (first : Work Input Refusal A) (next : A → Work Input Refusal B) (given : Given) (value : A) → outcome first given ≡ Ok value
-    → outcome (first >>= next) given ≡ outcome (next value) given
-then_outcome {A} {B} (ends (Ok found)) next given value is =
-    let same : found ≡ value = cc in
-    ap (λ (v : A). outcome (next v) given) same
-then_outcome (ends (Err why)) next given value is = absurd (cc)
-then_outcome (reads one rest) next given value is = then_outcome (rest (given one)) next given value is
+then_outcome : {A B : Type 0} (first : Work Input Refusal A) (next : A → Work Input Refusal B) (given : Given)
+    (value : A) → outcome first given ≡ Ok value → outcome (first >>= next) given ≡ outcome (next value) given
+then_outcome {A} first next given value is =
+    bound first next given ∙ ap (λ (r : Result A Refusal). outcome (ends r >>= next) given) is
 
 -- Work comes to one thing where each input that it may read is the same.
 

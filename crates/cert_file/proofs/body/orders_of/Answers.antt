@@ -1,11 +1,9 @@
 use Rattle.std.proofs.Common.{List, subst, sym, codes, [], ◌∷◌, ◌++◌, arith, ap, ◌∙◌}
 use Rattle.std.proofs.lemmas.Result.{err_from_is_err_and}
 use Rattle.map_base.specs.declared.ids.LineId.{LineId}
-use Rattle.octi_grid.specs.Walks.{PlainWalk}
-use Rattle.decimal_text.specs.Lines.{front}
 use Rattle.decimal_text.specs.Reading.{reading}
 use Rattle.decimal_text.proofs.Stops.{line_stops}
-use Rattle.cert_file.specs.Forms.{walk_in, order_of, spoken_front}
+use Rattle.cert_file.specs.Forms.{order_of, spoken_front}
 use Rattle.cert_file.specs.Reading.{after, orders_due}
 use Rattle.cert_file.proofs.Bodies.{AreOrdersSoFar, orders_begin, order_taken, order_stops, orders_end}
 use Rattle.cert_file.proofs.body.orders_of.Goals as goal

@@ -1,11 +1,10 @@
 use Rattle.std.proofs.Common.{List, subst, sym, arith}
 use Rattle.std.proofs.lemmas.Result.{err_from_is_err_and}
-use Rattle.map_base.specs.declared.ids.LineId.{LineId}
 use Rattle.octi_grid.specs.Walks.{PlainWalk}
 use Rattle.decimal_text.specs.Lines.{front}
 use Rattle.decimal_text.specs.Reading.{reading}
 use Rattle.decimal_text.proofs.Stops.{line_stops}
-use Rattle.cert_file.specs.Forms.{walk_in, order_of, spoken_front}
+use Rattle.cert_file.specs.Forms.{walk_in}
 use Rattle.cert_file.specs.Reading.{after, walks_due}
 use Rattle.cert_file.proofs.Bodies.{AreWalksSoFar, walks_begin, walk_taken, walk_stops, walks_end}
 use Rattle.cert_file.proofs.body.walks_of.Goals as goal

@@ -1,4 +1,4 @@
-use Rattle.std.proofs.Common.{◌<◌, unsigned_abs, arith}
+use Rattle.std.proofs.Common.{arith}
 use Rattle.std.proofs.lemmas.Int.{ints}
 use Rattle.cert_file.proofs.Walks.{far_across, far_along}
 use Rattle.cert_file.proofs.walk_line.walk_from.Goals as goal

@@ -3,7 +3,7 @@ use Rattle.std.proofs.lemmas.Result.{err_from_is_err_and}
 use Rattle.decimal_text.specs.Reading.{reading}
 use Rattle.decimal_text.proofs.Stops.{line_stops, rest_stops}
 use Rattle.cert_file.specs.Forms.{version_of, counts_of, spoken_front}
-use Rattle.cert_file.specs.Reading.{Version, AllCounts, after, rest_due}
+use Rattle.cert_file.specs.Reading.{Version, after, rest_due}
 use Rattle.cert_file.proofs.Heads.{version_stops, version_goes_on, version_range, counts_stop, counts_go_on, head_read}
 use Rattle.cert_file.proofs.whole.read_head.Goals as goal
 

@@ -1,9 +1,7 @@
 use Rattle.std.proofs.Common.{◌≡◌, ℕ, List, ◌∷◌, ◌++◌, codes, ap, sym, ◌∙◌, append_assoc}
 use Rattle.std.specs.Fmt.{decimal, signed_decimal}
-use Rattle.octi_grid.specs.declared.dir.Dir.{Dir}
 use Rattle.octi_grid.specs.declared.point.GridPoint.{GridPoint}
 use Rattle.octi_grid.specs.declared.walk.Run.{Run}
-use Rattle.octi_grid.specs.Runs.{steps_of}
 use Rattle.decimal_text.specs.Lines.{words_text}
 use Rattle.cert_file.specs.RunWords.{runs_of, run_words}
 use Rattle.cert_file.specs.Text.{start_text}

@@ -1,7 +1,5 @@
 use Rattle.std.proofs.Common.{◌≡◌, ◌++◌, drop}
-use Rattle.decimal_text.specs.Lines.{numbers_text, words_text}
-use Rattle.cert_file.specs.RunWords.{run_words}
-use Rattle.cert_file.specs.Text.{pair_numbers, line_numbers, walks_text, orders_text}
+use Rattle.cert_file.specs.Text.{walks_text}
 use Rattle.cert_file.proofs.writing.push_walks.Given as goal
 
 -- what is written and what is left are the whole

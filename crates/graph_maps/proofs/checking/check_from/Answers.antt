@@ -19,10 +19,8 @@ returns-clause-outcome c =
     let due : List ℕ → Result PlainChecked CheckFault = λ bytes. Ok
     (record { proved = c.in_ok-checked.checked.proved; svg = bytes }) in
     accepted_made (due_of c.args.names.now c.args.graph.now) c.args.importance.now c.args.settings.now c.args.claim
-    c.args.graph.now
-    held_by (certificate_in c.args.certificate.now)
-    (accepted_map c.in_ok-checked.checked) c.in_ok-checked.ensures.outcome
-    ∙ ap due (sym c.in_ok-svg.ensures)
+    c.args.graph.now held_by (certificate_in c.args.certificate.now)
+    (accepted_map c.in_ok-checked.checked) c.in_ok-checked.ensures.outcome ∙ ap due (sym c.in_ok-svg.ensures)
 
 pub returns-clause-certified : goal.returns-clause-certified
 returns-clause-certified c =

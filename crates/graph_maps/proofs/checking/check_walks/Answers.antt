@@ -1,5 +1,4 @@
-use Rattle.std.proofs.Common.{◌≡◌, ◌∙◌, ap, sym, refl, None, Ok, List, arith}
-use Rattle.map_base.specs.declared.weights.Weights.{Weights}
+use Rattle.std.proofs.Common.{◌≡◌, ◌∙◌, ap, sym, refl, None, Ok, arith}
 use Rattle.map_base.specs.Settings.{Choices}
 use Rattle.order_terms.specs.Limits.{graph_problem}
 use Rattle.graph_maps.specs.Problems.{problem_within}
@@ -23,10 +22,9 @@ check_orders-requires c =
     ∙ sym c.first_disorder.ensures ∙ c.in_default.is in
     let held = orders_held lines orders 0 c.requires.range.orders
     (omega (arith, c.requires.range.orders_each, c.requires.segs, c.requires.fits.lines_each)) none in
-    let weights : c.settings.inside.weights
-    ≡ c.args.settings.now.weights = ap (λ (choices : Choices). choices.weights) c.settings.view_is in
     let made : problem_within importance c.args.settings.now graph ≡ Ok c.in_ok-problem.problem =
-    ap (λ (ws : List Weights). graph_problem graph ws importance) (sym weights) ∙ c.in_ok-problem.ensures in
+    ap (λ (choices : Choices). graph_problem graph choices.weights importance) (sym c.settings.view_is)
+    ∙ c.in_ok-problem.ensures in
     orders_fit importance c.args.settings.now graph c.in_ok-problem.problem orders made held
 
 pub returns-clause-accepted : goal.returns-clause-accepted
@@ -37,10 +35,9 @@ returns-clause-accepted c =
     let orders = c.args.certificate.orders.lists in
     let none : first_disorder 0 lines orders ≡ None = ap (first_disorder 0 lines) (sym c.as_slice.ensures)
     ∙ sym c.first_disorder.ensures ∙ c.in_default.is in
-    let weights : c.settings.inside.weights
-    ≡ c.args.settings.now.weights = ap (λ (choices : Choices). choices.weights) c.settings.view_is in
     let made : problem_within importance c.args.settings.now graph ≡ Ok c.in_ok-problem.problem =
-    ap (λ (ws : List Weights). graph_problem graph ws importance) (sym weights) ∙ c.in_ok-problem.ensures in
+    ap (λ (choices : Choices). graph_problem graph choices.weights importance) (sym c.settings.view_is)
+    ∙ c.in_ok-problem.ensures in
     record {
       walks = refl;
       orders = refl;

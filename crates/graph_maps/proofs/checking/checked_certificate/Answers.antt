@@ -22,11 +22,9 @@ returns-clause-outcome c =
     (certificate_in c.args.certificate.now))
     (accepted_items c.args.importance.now c.args.settings.now c.args.claim c.args.graph.now read (held_by read))
     (ap (accepted_text held_by c.args.importance.now c.args.settings.now c.args.claim c.args.graph.now)
-    (text_read read c.args.certificate.now c.in_ok-read.ensures.certificate))
-    c.check_items.ensures.outcome
+    (text_read read c.args.certificate.now c.in_ok-read.ensures.certificate)) c.check_items.ensures.outcome
 
 pub returns-clause-accepted : goal.returns-clause-accepted
-returns-clause-accepted c =
-    accepted_by c.args.importance.now c.args.settings.now c.args.claim c.args.graph.now
+returns-clause-accepted c = accepted_by c.args.importance.now c.args.settings.now c.args.claim c.args.graph.now
     (plain c.in_ok-read.read) c.args.certificate.now
     c.check_items.result c.in_ok-read.ensures.certificate c.check_items.ensures.accepted

@@ -19,10 +19,8 @@ pub returns-clause-outcome : goal.returns-clause-outcome
 returns-clause-outcome c =
     let ok : List ℕ → Result (List ℕ) CheckFault = λ bytes. Ok bytes in
     accepted_made (labelled_of c.args.names.now c.args.graph.now) c.args.importance.now c.args.settings.now c.args.claim
-    c.args.graph.now
-    held_by (certificate_in c.args.certificate.now)
-    (accepted_map c.in_ok-checked.checked) c.in_ok-checked.ensures.outcome
-    ∙ ap ok (sym c.in_ok-labelled.ensures)
+    c.args.graph.now held_by (certificate_in c.args.certificate.now)
+    (accepted_map c.in_ok-checked.checked) c.in_ok-checked.ensures.outcome ∙ ap ok (sym c.in_ok-labelled.ensures)
 
 pub returns-clause-certified : goal.returns-clause-certified
 returns-clause-certified c =

@@ -25,8 +25,7 @@ returns-in_err-improved-clause-finished g c =
     c.in_err-improved.ensures.finished)
 
 pub returns-clause-outcome : goal.returns-clause-outcome
-returns-clause-outcome g c =
-    made_of_none (told_by c.args.names.now c.args.importance.now)
+returns-clause-outcome g c = made_of_none (told_by c.args.names.now c.args.importance.now)
     (solved_on c.args.importance.now c.args.settings.now c.args.method.now c.args.graph.now)
     (improved_bytes c.in_ok-improved.improved) c.in_ok-improved.ensures.outcome
 

@@ -10,8 +10,7 @@ use Rattle.graph_maps.proofs.SolveLemmas.{found_more}
 use Rattle.graph_maps.proofs.solving.solve_part.Goals as goal
 
 pub take_found-requires-clause-known : goal.take_found-requires-clause-known
-take_found-requires-clause-known g c =
-    subst (λ (n : ℕ). All (λ (s : SegId). s.0 < n) c.args.part.now)
+take_found-requires-clause-known g c = subst (λ (n : ℕ). All (λ (s : SegId). s.0 < n) c.args.part.now)
     (sym (length-orders c.args.problem.now.segs c.args.solution.now.orders.items c.requires.orders)) c.requires.known
 
 pub returns-in_ok-take_found-in-Ok-clause-more : goal.returns-in_ok-take_found-in-Ok-clause-more

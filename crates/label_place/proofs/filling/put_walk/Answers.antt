@@ -21,8 +21,7 @@ loop-run-init c =
     record {
       so_far = [];
       adds = adds_none c.args.grid.now c.requires.linked;
-      whole =
-          ap (λ (p : GridPoint). strokes_from c.args.margin p (steps_of runs)) c.start-at.ensures
+      whole = ap (λ (p : GridPoint). strokes_from c.args.margin p (steps_of runs)) c.start-at.ensures
           ∙ ap (λ (ds : List Dir). strokes_from c.args.margin w.start ds) c.runs-runs.ensures.steps;
       within =
           subst (λ (p : GridPoint). AllByRecursion IsWithin (points_from p (steps_of runs))) (sym c.start-at.ensures)

@@ -14,10 +14,7 @@ returns c =
     let spots = c.as_slice-3.result.now in
     let frame = c.in_ok-frame.frame in
     let found = c.in_ok-places.places.items in
-    IfOk-weaker c.picture_with.result _ _
-    (λ text h.
-    h
+    IfOk-weaker c.picture_with.result _ _ (λ text h. h
     ∙ ap (λ (b : Bounds). placed_text n g w o b spots) (c.in_ok-frame.ensures.value ∙ ap (frame_of n g w) c.as_slice.ensures.value)
     ∙ ap (placed_text n g w o (frame_of n g w found)) (c.as_slice-3.ensures.value ∙ c.in_ok-spots.ensures ∙ ap (spots_from n g w 0) c.as_slice-2.ensures.value)
-    ∙ ap (text_with n g w o) c.in_ok-places.ensures.exact)
-    c.picture_with.ensures
+    ∙ ap (text_with n g w o) c.in_ok-places.ensures.exact) c.picture_with.ensures

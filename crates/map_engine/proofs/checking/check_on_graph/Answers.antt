@@ -1,7 +1,5 @@
-use Rattle.std.proofs.Common.{◌∙◌, ℕ, ◌<◌, ◌^◌, List, length, All, IfOk, sym, subst}
+use Rattle.std.proofs.Common.{◌∙◌, IfOk, subst}
 use Rattle.std.proofs.lemmas.Result.{IfOk-weaker}
-use Rattle.map_base.specs.Settings.{IsImportance}
-use Rattle.line_graph.proofs.FeedLines.{lines_of_feed}
 use Rattle.graph_maps.specs.Subjects.{Subject}
 use Rattle.graph_maps.specs.declared.checked.Checked.{Checked}
 use Rattle.graph_maps.specs.Readings.{certificate_in}
@@ -9,23 +7,16 @@ use Rattle.graph_maps.specs.Checking.{certificate_on, checked_bytes, Gives}
 use Rattle.graph_maps.specs.Promises.{IsCertifiedOn}
 use Rattle.map_engine.specs.Tables.{subject_of}
 use Rattle.map_engine.specs.Promises.{IsCertified, ShowsLineGraph}
-use Rattle.map_engine.proofs.ImportanceLemmas.{listed_in, subject_is}
+use Rattle.map_engine.proofs.ImportanceLemmas.{told_of, subject_is}
 use Rattle.map_engine.proofs.FeedMaps.{certified_of, shown_of}
 use Rattle.map_engine.proofs.checking.check_on_graph.Goals as goal
 
-pub check_from-requires-clause-numbers : goal.check_from-requires-clause-numbers
-check_from-requires-clause-numbers c = subst (All IsImportance)
-    (sym c.as_slice.ensures.value) c.in_ok-importance.ensures.range
-
-pub check_from-requires-clause-lines : goal.check_from-requires-clause-lines
-check_from-requires-clause-lines c =
-    listed_in c.args.tables.now c.args.settings.now c.args.graph.now c.as_slice.result.now
-    (c.as_slice.ensures.value ∙ c.in_ok-importance.ensures.value)
-    (lines_of_feed c.args.settings.now.near c.args.tables.now c.args.graph.now c.requires.graph)
-
-pub check_from-requires-clause-few : goal.check_from-requires-clause-few
-check_from-requires-clause-few c = subst (λ (ns : List ℕ). length ns < 2 ^ 32)
-    (sym c.as_slice.ensures.value) c.in_ok-importance.ensures.few
+pub check_from-requires : goal.check_from-requires
+check_from-requires c =
+    let told = told_of c.args.tables.now c.args.settings.now c.args.graph.now c.requires.graph
+    c.in_ok-importance.importance.items c.as_slice.result.now c.as_slice.ensures.value c.in_ok-importance.ensures.value
+    c.in_ok-importance.ensures.range c.in_ok-importance.ensures.few in
+    record { numbers = told.numbers; lines = told.lines; few = told.few }
 
 pub returns-clause-outcome : goal.returns-clause-outcome
 returns-clause-outcome c =
@@ -46,8 +37,7 @@ returns-clause-certified c =
     c.args.certificate.now x.proved)
     (λ (x : Checked). IsCertified feed choices c.args.claim x.svg.items c.args.certificate.now x.proved)
     (λ x is. certified_of feed choices c.args.graph.now c.requires.graph c.requires.kept c.args.claim x.svg.items
-    c.args.certificate.now x.proved is)
-    (subst (λ (s : Subject). IfOk c.check_from.result
+    c.args.certificate.now x.proved is) (subst (λ (s : Subject). IfOk c.check_from.result
     (λ (x : Checked). IsCertifiedOn s choices c.args.claim c.args.graph.now x.svg.items c.args.certificate.now
     x.proved)) told c.check_from.ensures.certified)
 
@@ -59,10 +49,8 @@ returns-clause-shown c =
     (c.as_slice.ensures.value ∙ c.in_ok-importance.ensures.value) in
     IfOk-weaker c.check_from.result
     (λ (x : Checked). IsCertifiedOn (subject_of feed choices) choices c.args.claim c.args.graph.now x.svg.items
-    c.args.certificate.now x.proved)
-    (λ (x : Checked). ShowsLineGraph feed choices c.args.claim x.svg.items x.proved)
+    c.args.certificate.now x.proved) (λ (x : Checked). ShowsLineGraph feed choices c.args.claim x.svg.items x.proved)
     (λ x is. shown_of feed choices c.args.graph.now c.requires.graph c.requires.kept c.args.claim x.svg.items
-    c.args.certificate.now x.proved is)
-    (subst (λ (s : Subject). IfOk c.check_from.result
+    c.args.certificate.now x.proved is) (subst (λ (s : Subject). IfOk c.check_from.result
     (λ (x : Checked). IsCertifiedOn s choices c.args.claim c.args.graph.now x.svg.items c.args.certificate.now
     x.proved)) told c.check_from.ensures.certified)

@@ -1,9 +1,6 @@
-use Rattle.std.proofs.Common.{sym, subst, ℕ, List, Ok, Result, Vec}
+use Rattle.std.proofs.Common.{subst, ℕ, List, Ok, Vec}
 use Rattle.std.specs.Global.{Global}
-use Rattle.map_base.specs.declared.limit.Limit.{Limit}
 use Rattle.map_base.specs.declared.point.Point.{Point}
-use Rattle.graph_core.specs.declared.parts.GraphParts.{GraphParts}
-use Rattle.line_graph.specs.SegmentLines.{lines_outcome}
 use Rattle.graph_maps.specs.Readings.{certificate_in}
 use Rattle.graph_maps.specs.Checking.{Gives}
 use Rattle.map_engine.specs.Geographic.{geographic_on}
@@ -14,13 +11,7 @@ returns-clause-outcome c =
     let feed = c.args.tables.now in
     let choices = c.args.settings.now in
     let read = certificate_in c.args.certificate.now in
-    subst (λ (graph : Result GraphParts Limit). Gives (λ (map : Vec ℕ Global). map.items) c.geo_on_graph.result
-    (geographic_on feed choices c.args.claim read graph (lines_outcome choices.near feed)))
-    (sym c.in_ok-made.ensures.graph)
-    (subst (λ (lines : Result (List (List Point)) Limit). Gives
+    rw (c.in_ok-made.ensures.graph, c.in_ok-made.ensures.lines) (subst (λ (lines : List (List Point)). Gives
     (λ (map : Vec ℕ Global). map.items) c.geo_on_graph.result
-    (geographic_on feed choices c.args.claim read (Ok c.in_ok-made.made.graph) lines))
-    (sym c.in_ok-made.ensures.lines)
-    (subst (λ (lines : List (List Point)). Gives (λ (map : Vec ℕ Global). map.items) c.geo_on_graph.result
     (geographic_on feed choices c.args.claim read (Ok c.in_ok-made.made.graph) (Ok lines))) c.as_slice.ensures
-    c.geo_on_graph.ensures.outcome))
+    c.geo_on_graph.ensures.outcome)

@@ -1,8 +1,6 @@
-use Rattle.std.proofs.Common.{◌≡◌, ◌∙◌, ℕ, ◌<◌, ◌^◌, List, length, All, Ok, Result, ap, sym, refl, subst}
+use Rattle.std.proofs.Common.{◌≡◌, ◌∙◌, ℕ, List, Ok, Result, ap, sym, refl, subst}
 use Rattle.std.proofs.lemmas.Result.{err_from_is_err_and}
 use Rattle.map_base.specs.declared.ids.LineId.{LineId}
-use Rattle.map_base.specs.Settings.{IsImportance}
-use Rattle.line_graph.proofs.FeedLines.{lines_of_feed}
 use Rattle.order_model.specs.Costs.{AreOrders}
 use Rattle.svg_writer.specs.declared.names.Names.{Names}
 use Rattle.svg_writer.specs.Picture.{picture_text}
@@ -13,23 +11,16 @@ use Rattle.graph_maps.specs.Checking.{AcceptedMap, accepted_map, accepted_text, 
 use Rattle.graph_maps.specs.Promises.{IsAcceptedOn}
 use Rattle.graph_maps.proofs.Accepted.{accepted_made, certified_by, refused_made}
 use Rattle.map_engine.specs.Tables.{importance_by, names_by, subject_of}
-use Rattle.map_engine.proofs.ImportanceLemmas.{listed_in}
+use Rattle.map_engine.proofs.ImportanceLemmas.{told_of}
 use Rattle.map_engine.proofs.FeedMaps.{certified_of}
 use Rattle.map_engine.proofs.geographic.geo_on_graph.Goals as goal
 
-pub checked_certificate-requires-clause-numbers : goal.checked_certificate-requires-clause-numbers
-checked_certificate-requires-clause-numbers c = subst (All IsImportance)
-    (sym c.as_slice.ensures.value) c.in_ok-importance.ensures.range
-
-pub checked_certificate-requires-clause-lines : goal.checked_certificate-requires-clause-lines
-checked_certificate-requires-clause-lines c =
-    listed_in c.args.tables.now c.args.settings.now c.args.graph.now c.as_slice.result.now
-    (c.as_slice.ensures.value ∙ c.in_ok-importance.ensures.value)
-    (lines_of_feed c.args.settings.now.near c.args.tables.now c.args.graph.now c.requires.graph)
-
-pub checked_certificate-requires-clause-few : goal.checked_certificate-requires-clause-few
-checked_certificate-requires-clause-few c = subst (λ (ns : List ℕ). length ns < 2 ^ 32)
-    (sym c.as_slice.ensures.value) c.in_ok-importance.ensures.few
+pub checked_certificate-requires : goal.checked_certificate-requires
+checked_certificate-requires c =
+    let told = told_of c.args.tables.now c.args.settings.now c.args.graph.now c.requires.graph
+    c.in_ok-importance.importance.items c.as_slice.result.now c.as_slice.ensures.value c.in_ok-importance.ensures.value
+    c.in_ok-importance.ensures.range c.in_ok-importance.ensures.few in
+    record { numbers = told.numbers; lines = told.lines; few = told.few }
 
 pub geographic-requires-clause-ordered : goal.geographic-requires-clause-ordered
 geographic-requires-clause-ordered c =
@@ -63,8 +54,7 @@ returns-clause-outcome c =
     let drawn = c.in_ok-geographic.ensures
     ∙ ap (λ (ns : Names). geographic_text ns graph c.args.lines.now a.orders) c.in_ok-names.ensures in
     accepted_made (λ (x : AcceptedMap). geographic_text (names_by feed) graph c.args.lines.now x.orders)
-    (importance_by feed choices) choices c.args.claim graph held_by read a accepted
-    ∙ ap ok (sym drawn)
+    (importance_by feed choices) choices c.args.claim graph held_by read a accepted ∙ ap ok (sym drawn)
 
 pub returns-clause-certified : goal.returns-clause-certified
 returns-clause-certified c =

@@ -1,31 +1,22 @@
-use Rattle.std.proofs.Common.{◌∙◌, ℕ, ◌<◌, ◌^◌, List, Vec, length, All, IfOk, sym, subst}
+use Rattle.std.proofs.Common.{◌∙◌, ℕ, Vec, IfOk, subst}
 use Rattle.std.specs.Global.{Global}
 use Rattle.std.proofs.lemmas.Result.{IfOk-weaker}
-use Rattle.map_base.specs.Settings.{IsImportance}
-use Rattle.line_graph.proofs.FeedLines.{lines_of_feed}
 use Rattle.graph_maps.specs.Subjects.{Subject}
 use Rattle.graph_maps.specs.Readings.{certificate_in}
 use Rattle.graph_maps.specs.Checking.{Gives}
 use Rattle.graph_maps.specs.Labelling.{labelled_on, IsLabelledOn}
 use Rattle.map_engine.specs.Tables.{subject_of}
 use Rattle.map_engine.specs.Labelling.{IsLabelledMap}
-use Rattle.map_engine.proofs.ImportanceLemmas.{listed_in, subject_is}
+use Rattle.map_engine.proofs.ImportanceLemmas.{told_of, subject_is}
 use Rattle.map_engine.proofs.FeedMaps.{labelled_of}
 use Rattle.map_engine.proofs.labelled.labels_on_graph.Goals as goal
 
-pub labels_from-requires-clause-numbers : goal.labels_from-requires-clause-numbers
-labels_from-requires-clause-numbers c = subst (All IsImportance)
-    (sym c.as_slice.ensures.value) c.in_ok-importance.ensures.range
-
-pub labels_from-requires-clause-lines : goal.labels_from-requires-clause-lines
-labels_from-requires-clause-lines c =
-    listed_in c.args.tables.now c.args.settings.now c.args.graph.now c.as_slice.result.now
-    (c.as_slice.ensures.value ∙ c.in_ok-importance.ensures.value)
-    (lines_of_feed c.args.settings.now.near c.args.tables.now c.args.graph.now c.requires.graph)
-
-pub labels_from-requires-clause-few : goal.labels_from-requires-clause-few
-labels_from-requires-clause-few c = subst (λ (ns : List ℕ). length ns < 2 ^ 32)
-    (sym c.as_slice.ensures.value) c.in_ok-importance.ensures.few
+pub labels_from-requires : goal.labels_from-requires
+labels_from-requires c =
+    let told = told_of c.args.tables.now c.args.settings.now c.args.graph.now c.requires.graph
+    c.in_ok-importance.importance.items c.as_slice.result.now c.as_slice.ensures.value c.in_ok-importance.ensures.value
+    c.in_ok-importance.ensures.range c.in_ok-importance.ensures.few in
+    record { numbers = told.numbers; lines = told.lines; few = told.few }
 
 pub returns-clause-outcome : goal.returns-clause-outcome
 returns-clause-outcome c =
@@ -46,7 +37,6 @@ returns-clause-certified c =
     c.args.certificate.now)
     (λ (v : Vec ℕ Global). IsLabelledMap feed choices c.args.claim v.items c.args.certificate.now)
     (λ v is. labelled_of feed choices c.args.graph.now c.requires.graph c.requires.kept c.args.claim v.items
-    c.args.certificate.now is)
-    (subst (λ (s : Subject). IfOk c.labels_from.result
+    c.args.certificate.now is) (subst (λ (s : Subject). IfOk c.labels_from.result
     (λ (v : Vec ℕ Global). IsLabelledOn s choices c.args.claim c.args.graph.now v.items c.args.certificate.now))
     told c.labels_from.ensures.certified)

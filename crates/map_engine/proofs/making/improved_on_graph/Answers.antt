@@ -1,8 +1,6 @@
-use Rattle.std.proofs.Common.{◌∙◌, ℕ, ◌<◌, ◌^◌, List, length, All, IfOk, sym, ap, subst, arith}
+use Rattle.std.proofs.Common.{◌∙◌, ℕ, List, IfOk, sym, ap, subst, arith}
 use Rattle.std.proofs.lemmas.List.Elements.{All-contains_itself}
 use Rattle.std.proofs.lemmas.Result.{IfOk-weaker}
-use Rattle.map_base.specs.Settings.{IsImportance}
-use Rattle.line_graph.proofs.FeedLines.{lines_of_feed}
 use Rattle.kept_trees.specs.OwnTrees.{HeldPart}
 use Rattle.graph_maps.specs.Subjects.{Subject}
 use Rattle.graph_maps.specs.declared.improvement.ImprovedMap.{ImprovedMap}
@@ -11,23 +9,16 @@ use Rattle.graph_maps.specs.Keeping.{finished_on, left_on, HoldsFinished}
 use Rattle.graph_maps.specs.Improving.{improved_bytes, improved_on, IsImprovedOn}
 use Rattle.map_engine.specs.Tables.{subject_of}
 use Rattle.map_engine.specs.Improving.{IsImprovedMap}
-use Rattle.map_engine.proofs.ImportanceLemmas.{listed_in, subject_is}
+use Rattle.map_engine.proofs.ImportanceLemmas.{told_of, subject_is}
 use Rattle.map_engine.proofs.FeedMaps.{finished_is, improved_is, improved_of, left_is}
 use Rattle.map_engine.proofs.making.improved_on_graph.Goals as goal
 
-pub make_improved_from-requires-clause-numbers : goal.make_improved_from-requires-clause-numbers
-make_improved_from-requires-clause-numbers g c = subst (All IsImportance)
-    (sym c.as_slice.ensures.value) c.in_ok-importance.ensures.range
-
-pub make_improved_from-requires-clause-lines : goal.make_improved_from-requires-clause-lines
-make_improved_from-requires-clause-lines g c =
-    listed_in c.args.tables.now c.args.settings.now c.args.graph.now c.as_slice.result.now
-    (c.as_slice.ensures.value ∙ c.in_ok-importance.ensures.value)
-    (lines_of_feed c.args.settings.now.near c.args.tables.now c.args.graph.now c.requires.graph)
-
-pub make_improved_from-requires-clause-few : goal.make_improved_from-requires-clause-few
-make_improved_from-requires-clause-few g c = subst (λ (ns : List ℕ). length ns < 2 ^ 32)
-    (sym c.as_slice.ensures.value) c.in_ok-importance.ensures.few
+pub make_improved_from-requires : goal.make_improved_from-requires
+make_improved_from-requires g c =
+    let told = told_of c.args.tables.now c.args.settings.now c.args.graph.now c.requires.graph
+    c.in_ok-importance.importance.items c.as_slice.result.now c.as_slice.ensures.value c.in_ok-importance.ensures.value
+    c.in_ok-importance.ensures.range c.in_ok-importance.ensures.few in
+    record { numbers = told.numbers; lines = told.lines; few = told.few }
 
 pub returns-in_err-names-clause-kept : goal.returns-in_err-names-clause-kept
 returns-in_err-names-clause-kept g c = All-contains_itself c.args.kept.now
@@ -88,6 +79,5 @@ returns-clause-steps g c =
       arith,
       c.make_improved_from.ensures.steps,
       left,
-      left_is feed choices graph c.requires.graph
-          c.args.kept.now method,
+      left_is feed choices graph c.requires.graph c.args.kept.now method,
     )

@@ -24,8 +24,7 @@ returns-in_err-improved-clause-finished g c =
     rw (same.1, same.2) (same_held ImprovedMap Made e parts c.improved_on_graph.new.kept c.in_err-improved.ensures.finished)
 
 pub returns-clause-outcome : goal.returns-clause-outcome
-returns-clause-outcome g c =
-    made_of_none (subject_of c.args.tables.now c.args.settings.now)
+returns-clause-outcome g c = made_of_none (subject_of c.args.tables.now c.args.settings.now)
     (solved_outcome c.args.tables.now c.args.settings.now c.args.method.now)
     (improved_bytes c.in_ok-improved.improved) c.in_ok-improved.ensures.outcome
 

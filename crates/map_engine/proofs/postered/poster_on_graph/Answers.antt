@@ -1,9 +1,7 @@
-use Rattle.std.proofs.Common.{◌≡◌, ◌∙◌, ℕ, ◌<◌, ◌^◌, List, length, All, Ok, Result, ap, sym, refl, subst}
+use Rattle.std.proofs.Common.{◌≡◌, ◌∙◌, ℕ, List, Ok, Result, ap, sym, refl, subst}
 use Rattle.std.proofs.lemmas.Result.{err_from_is_err_and}
 use Rattle.map_base.specs.declared.ids.LineId.{LineId}
-use Rattle.map_base.specs.Settings.{IsImportance}
 use Rattle.octi_grid.specs.Walks.{PlainWalk}
-use Rattle.line_graph.proofs.FeedLines.{lines_of_feed}
 use Rattle.line_calls.specs.Calls.{node_callers}
 use Rattle.svg_writer.specs.declared.names.Names.{Names}
 use Rattle.svg_writer.specs.Picture.{picture_text}
@@ -14,23 +12,16 @@ use Rattle.graph_maps.specs.Checking.{AcceptedMap, accepted_map, accepted_text, 
 use Rattle.graph_maps.specs.Promises.{IsAcceptedOn}
 use Rattle.graph_maps.proofs.Accepted.{accepted_made, certified_by, refused_made}
 use Rattle.map_engine.specs.Tables.{importance_by, names_by, subject_of}
-use Rattle.map_engine.proofs.ImportanceLemmas.{listed_in}
+use Rattle.map_engine.proofs.ImportanceLemmas.{told_of}
 use Rattle.map_engine.proofs.FeedMaps.{certified_of}
 use Rattle.map_engine.proofs.postered.poster_on_graph.Goals as goal
 
-pub checked_certificate-requires-clause-numbers : goal.checked_certificate-requires-clause-numbers
-checked_certificate-requires-clause-numbers c = subst (All IsImportance)
-    (sym c.as_slice.ensures.value) c.in_ok-importance.ensures.range
-
-pub checked_certificate-requires-clause-lines : goal.checked_certificate-requires-clause-lines
-checked_certificate-requires-clause-lines c =
-    listed_in c.args.tables.now c.args.settings.now c.args.graph.now c.as_slice.result.now
-    (c.as_slice.ensures.value ∙ c.in_ok-importance.ensures.value)
-    (lines_of_feed c.args.settings.now.near c.args.tables.now c.args.graph.now c.requires.graph)
-
-pub checked_certificate-requires-clause-few : goal.checked_certificate-requires-clause-few
-checked_certificate-requires-clause-few c = subst (λ (ns : List ℕ). length ns < 2 ^ 32)
-    (sym c.as_slice.ensures.value) c.in_ok-importance.ensures.few
+pub checked_certificate-requires : goal.checked_certificate-requires
+checked_certificate-requires c =
+    let told = told_of c.args.tables.now c.args.settings.now c.args.graph.now c.requires.graph
+    c.in_ok-importance.importance.items c.as_slice.result.now c.as_slice.ensures.value c.in_ok-importance.ensures.value
+    c.in_ok-importance.ensures.range c.in_ok-importance.ensures.few in
+    record { numbers = told.numbers; lines = told.lines; few = told.few }
 
 pub returns-in_err-checked-clause-outcome : goal.returns-in_err-checked-clause-outcome
 returns-in_err-checked-clause-outcome c =

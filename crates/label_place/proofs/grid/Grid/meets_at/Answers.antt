@@ -37,8 +37,7 @@ loop-at-preserved c =
     let read : c.index-entry.result.now ≡ get_or g.entries.items i no_entry = get_or_read g.entries.items i _ here.0 c.index-entry.ensures no_entry in
     let missed : meets c.args.bounds (get_or g.entries.items i no_entry).thing ≡ false = subst (λ (e : Entry). meets c.args.bounds e.thing ≡ false) read (sym c.meets.ensures ∙ c.if-meets.false) in
     record {
-      left =
-          ap (λ (e : Entry). hits_upto c.args.bounds q g.entries.items e.earlier) read
+      left = ap (λ (e : Entry). hits_upto c.args.bounds q g.entries.items e.earlier) read
           ∙ past_entry g c.args.bounds q i c.requires.linked here.0 here.1 missed
           ∙ ap (hits_upto c.args.bounds q g.entries.items) (sym c.in-Some.is) ∙ c.loop-at.invariant.left;
       here = subst (λ (e : Entry). IfSome e.earlier (IsHere g q)) (sym read) (earlier_ok g q i c.requires.linked here);
