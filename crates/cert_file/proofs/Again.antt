@@ -1,5 +1,5 @@
 -- What is written of a certificate in range is read again.
-use Rattle.std.proofs.Common.{◌≡◌, ℕ, suc, ◌+◌, ◌-◌, ◌<◌, ◌≤◌, ℤ, pos, negsuc, Bool, true, false, cond, not, ◌&&◌, eqb, ltb, List, [], ◌∷◌, ◌++◌, codes, length, take, drop, replicate, Option, Some, None, option_map, unsigned_abs, refl, ap, subst, sym, ◌∙◌, lt-ltb, arith}
+use Rattle.std.proofs.Common.{◌≡◌, ℕ, suc, ◌+◌, ◌<◌, ◌≤◌, ℤ, pos, negsuc, Bool, true, false, cond, not, ◌&&◌, eqb, ltb, List, [], ◌∷◌, ◌++◌, codes, length, take, drop, replicate, Option, Some, None, option_map, unsigned_abs, refl, ap, subst, sym, ◌∙◌, lt-ltb, arith}
 use Rattle.std.specs.Option.{option_and_then}
 use Rattle.std.specs.List.{AllByRecursion, list_all, position_or_len}
 use Rattle.std.specs.Char.{is_ascii_digit}
