@@ -64,8 +64,9 @@ pub returns-in-Trial-clause-ends : goal.returns-in-Trial-clause-ends
 returns-in-Trial-clause-ends g c =
     outputs_end (g.F.Files.told c.args.files.now) (asked_by c.args.command.now) (Rose (g.F.Files.faults c.args.files.now) (g.F.Files.faults c.args.files.now)) _ c.print_trial-outcome.result _
     (inputs_by c.inputs_of-inputs.result) _ _ _ (ap asked_by c.in-Trial.is) c.inputs_of-inputs.ensures refl (λ o h. h)
-    (trial_follows (g.F.Files.told c.args.files.now) (asked_by c.args.command.now) _ c.print_trial-outcome.result _ _
-    c.print_trial-outcome.ensures.given) (no_promise c.print_trial-outcome.result) c.write_outcome-in-Trial.ensures.written
+    (trial_follows (g.F.Files.told c.args.files.now) (asked_by c.args.command.now)
+    (Rose (g.F.Files.faults c.args.files.now) (g.F.Files.faults c.args.files.now)) c.print_trial-outcome.result
+    (inputs_by c.inputs_of-inputs.result) _ c.print_trial-outcome.ensures.given) (no_promise c.print_trial-outcome.result) c.write_outcome-in-Trial.ensures.written
 
 pub returns-in-Session-clause-ends : goal.returns-in-Session-clause-ends
 returns-in-Session-clause-ends g c =
