@@ -18,9 +18,10 @@ use Rattle.kept_trees.proofs.Composing.{few_prices}
 use Rattle.kept_trees.proofs.Counting.{walk_grows, walk_few, first_few, second_few}
 use Rattle.kept_trees.proofs.Walking.{turned_pair, fork_made, forked_is, rounds_are, walk_spent, walk_over, err_all, end_walked, end_few}
 use Rattle.kept_trees.proofs.walk.+walk.Goals as goal
+use Rattle.kept_trees.proofs.walk.+walk.Goals.{fork-In-Some, fork-In-Some-2, walk-Else-not-ascend, walk-In_ok-tree}
 
 -- the first tree of a fork is walked
-first_walked : (g : _) (t : ℕ) (c : goal.fork-In-Some g t)
+first_walked : (g : _) (t : ℕ) (c : fork-In-Some g t)
     → walks.walked (search_of c.args.search.now) (c.args.room - 1) 200 (c.args.pair ∷ pairs_of c.args.settled.now.items)
     (bound_of c.args.bound.now).prices (progress_of c.args.now.now)
     ≡ walks.whole (plain_walked c.in-Some.first) (progress_of c.walk_with.new.now)
@@ -30,7 +31,7 @@ first_walked g t c =
     (bound_of c.args.bound.now).prices (progress_of c.args.now.now))) c.in-Some.is c.in_ok-first.ensures.walked
 
 -- and then the second one
-second_walked : (g : _) (t : ℕ) (c : goal.fork-In-Some-2 g t)
+second_walked : (g : _) (t : ℕ) (c : fork-In-Some-2 g t)
     → walks.walked (search_of c.args.search.now) (c.args.room - 1) 200
     (turned_pair c.args.pair ∷ pairs_of c.args.settled.now.items) (bound_of c.args.bound.now).prices
     (progress_of c.walk_with.new.now)
@@ -48,7 +49,7 @@ second_walked g t c =
     (later (c.turned-back.result ∷ pairs_of c.walk_with.new.settled.items))) c.in-Some-2.is c.in_ok-second.ensures.walked
 
 -- so the fork counts as many branch nodes as were counted
-fork_counts : (g : _) (t : ℕ) (c : goal.fork-In-Some-2 g t) (d : OpenPair) → IsForkAt d c.args.pair
+fork_counts : (g : _) (t : ℕ) (c : fork-In-Some-2 g t) (d : OpenPair) → IsForkAt d c.args.pair
     → c.walk_with-2.new.now.branches
     ≤ counted (fork_at (search_of c.args.search.now) c.args.room d (bound_of c.args.bound.now)
     (pairs_of c.args.settled.now.items) (progress_of c.args.now.now))
@@ -62,7 +63,7 @@ fork_counts g t c d at =
     omega (arith, same, count)
 
 -- the rounds of a node are over
-rounds_over : (g : _) (t : ℕ) (c : goal.walk-Else-not-ascend g t)
+rounds_over : (g : _) (t : ℕ) (c : walk-Else-not-ascend g t)
     → rounds.ascended (search_of c.args.search.now) (pairs_of c.args.settled.now.items) 200 c.args.prices.now
     (progress_of c.args.now.now).incumbent (progress_of c.args.now.now).branches
     ≡ rounds.over (ascent_of c.ascend.new.now c.ascend.new.ascent)
@@ -73,7 +74,7 @@ rounds_over g t c =
     (c.in_ok-ascent.ensures.first c.args.now.now) (c.if-not-ascend.ensures.over refl)
 
 -- what it then is
-node_is : (g : _) (t : ℕ) (c : goal.walk-In_ok-tree g t)
+node_is : (g : _) (t : ℕ) (c : walk-In_ok-tree g t)
     → EndIs c.args.search.now.part.problem.now (pairs_of c.args.settled.now.items)
     (ascent_of c.ascend.new.now c.ascend.new.ascent) (progress_of c.node_end.new.now) c.in_ok-tree.field-0
 node_is g t c =
