@@ -13,9 +13,10 @@ use Rattle.dual_rounds.proofs.SegmentLists.{length_of_averages, length_averages}
 use Rattle.kept_trees.specs.Searching.{ascent_of}
 use Rattle.kept_trees.proofs.Composing.{with_averages}
 use Rattle.kept_trees.proofs.ascent.look.Goals as goal
+use Rattle.kept_trees.proofs.ascent.look.Goals.{After-average_in}
 
 -- the averages that are kept
-averaged : (c : goal.After-average_in)
+averaged : (c : After-average_in)
     → averages_of (with_items c.args.ascent.now.averages c.average_in.new.averages).items
     ≡ averages_after c.args.search.now.part.problem.now c.args.ascent.now.round c.args.orders.now
     (averages_of c.args.ascent.now.averages.items)

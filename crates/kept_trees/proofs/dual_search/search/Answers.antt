@@ -18,9 +18,11 @@ use Rattle.kept_trees.proofs.Walking.{err_all}
 use Rattle.kept_trees.proofs.RootNodes.{searched, root, root_are, spent_is, stop_is, over_few}
 use Rattle.kept_trees.proofs.RootNodes.{result_of, fork_is, fork_few, told_by}
 use Rattle.kept_trees.proofs.dual_search.search.Goals as goal
+use Rattle.kept_trees.proofs.dual_search.search.Goals.{After-as_slice, After-ascend, Else-not-ascend}
+use Rattle.kept_trees.proofs.dual_search.search.Goals.{In_ok-tree, In_ok-tree-in-Fork}
 
 -- the root begins with prices that are all 0
-no_prices : (g : _) (c : goal.After-as_slice g) → c.as_slice.result.now ≡ zeros c.in_ok-part.part.problem.now
+no_prices : (g : _) (c : After-as_slice g) → c.as_slice.result.now ≡ zeros c.in_ok-part.part.problem.now
 no_prices g c =
     c.as_slice.ensures.value
     ∙ c.in_ok-prices.ensures.items_if_clones_equal (search rules)
@@ -28,7 +30,7 @@ no_prices g c =
     c.terms.ensures.list
 
 -- what its rounds come to
-root_after : (g : _) (c : goal.After-ascend g) (s : rounds.Stage)
+root_after : (g : _) (c : After-ascend g) (s : rounds.Stage)
     → rounds.closed (searched c.in_ok-part.part.problem.now c.args.budget) (pairs_of c.as_slice-2.result.now)
     (rounds.rounds (searched c.in_ok-part.part.problem.now c.args.budget) (pairs_of c.as_slice-2.result.now) root_rounds
     (ascent_of c.in_ok-now.now c.in_ok-root.root)) ≡ s
@@ -40,14 +42,14 @@ root_after g c s =
     (c.in_ok-root.ensures.first c.in_ok-now.now) (no_prices g (goal.at.After-ascend g c).After-as_slice)
     c.in_ok-now.ensures.first c.in_ok-now.ensures.none
 
-root_over : (g : _) (c : goal.Else-not-ascend g)
+root_over : (g : _) (c : Else-not-ascend g)
     → root c.in_ok-part.part.problem.now c.args.budget ≡ rounds.over (ascent_of c.ascend.new.now c.ascend.new.ascent)
 root_over g c =
     root_after g (goal.at.Else-not-ascend g c).After-ascend (rounds.over (ascent_of c.ascend.new.now c.ascend.new.ascent))
     (c.if-not-ascend.ensures.over refl)
 
 -- what it then is
-root_end : (g : _) (c : goal.In_ok-tree g)
+root_end : (g : _) (c : In_ok-tree g)
     → EndIs c.in_ok-part.part.problem.now [] (ascent_of c.ascend.new.now c.ascend.new.ascent)
     (progress_of c.node_end.new.now) c.in_ok-tree.field-0
 root_end g c =
@@ -56,7 +58,7 @@ root_end g c =
     (c.as_slice-3.ensures.value ∙ c.new-settled.ensures.items) c.in_ok-tree.ensures.end
 
 -- what comes of it where it is a fork
-forked : (g : _) (c : goal.In_ok-tree-in-Fork g)
+forked : (g : _) (c : In_ok-tree-in-Fork g)
     → result_of (bound_of c.into_bound-bound.result) c.in_ok-tree-in-Fork.field-0 (progress_of c.fork.new.now)
     ≡ dual_result c.in_ok-part.part.problem.now c.args.budget
 forked g c =

@@ -11,8 +11,11 @@ use Rattle.kept_trees.specs.declared.ascent.Ascent.{Ascent}
 use Rattle.kept_trees.specs.Searching.{search_of, ascent_of, moved}
 use Rattle.kept_trees.proofs.Composing.{seen, round_begun, round_over, round_moves}
 use Rattle.kept_trees.proofs.Counting.{counted_is}
-use Rattle.kept_trees.proofs.rounds.one_round.Go-- what the round comes to once its orders and their value were looked at
-looked : (g : _) (c : goal.After-look g)
+use Rattle.kept_trees.proofs.rounds.one_round.Goals as goal
+use Rattle.kept_trees.proofs.rounds.one_round.Goals.{After-look}
+
+-- what the round comes to once its orders and their value were looked at
+looked : (g : _) (c : After-look g)
     → (rounds.is_shown (ascent_of c.answer-value.new.now c.look.new.ascent) ≡ true
     → rounds.one_round (search_of c.args.search.now) (pairs_of c.args.settled.now) (ascent_of c.args.now.now c.args.ascent.now)
     ≡ rounds.over (ascent_of c.answer-value.new.now c.look.new.ascent))
@@ -49,8 +52,6 @@ looked g c =
       λ s none m. round_moves q settled start a b value begins is_value is_seen s none
           (ap (λ (o : List (List LineId)). moved q settled o value b) (sym orders) ∙ m),
     )
-
-als as goal
 
 pub look-requires-clause-orders : goal.look-requires-clause-orders
 look-requires-clause-orders g c =

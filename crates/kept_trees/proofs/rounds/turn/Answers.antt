@@ -12,9 +12,10 @@ use Rattle.dual_orders.proofs.Placing.{same_lengths}
 use Rattle.kept_trees.specs.Searching.{search_of, ascent_of}
 use Rattle.kept_trees.proofs.Composing.{turn_moves, turn_stills}
 use Rattle.kept_trees.proofs.rounds.turn.Goals as goal
+use Rattle.kept_trees.proofs.rounds.turn.Goals.{After-square_sum}
 
 -- the directions follow, and this is the sum of their squares
-turned : (c : goal.After-square_sum)
+turned : (c : After-square_sum)
     → ((with_items c.args.ascent.now.directions c.direct.new.directions).items
     ≡ next_directions c.args.search.now.part.problem.now c.args.orders.now c.args.ascent.now.prices.items
     c.args.ascent.now.directions.items)

@@ -18,9 +18,10 @@ use Rattle.kept_trees.proofs.Composing.{few_prices}
 use Rattle.kept_trees.proofs.Counting.{walk_grows, walk_few, first_few, second_few}
 use Rattle.kept_trees.proofs.Walking.{turned_pair, fork_made, forked_is, rounds_are, walk_spent, walk_over, err_all, end_walked, end_few}
 use Rattle.kept_trees.proofs.walk.+walk.Goals as goal
+use Rattle.kept_trees.proofs.walk.+walk.Goals.{fork-In-Some, fork-In-Some-2, walk-Else-not-ascend, walk-In_ok-tree}
 
 -- the first tree of a fork is walked
-first_walked : (g : _) (t : ℕ) (c : goal.fork-In-Some g t)
+first_walked : (g : _) (t : ℕ) (c : fork-In-Some g t)
     → walks.walked (search_of c.args.search.now) (c.args.room - 1) 200 (c.args.pair ∷ pairs_of c.args.settled.now.items)
     (bound_of c.args.bound.now).prices (progress_of c.args.now.now)
     ≡ walks.whole (plain_walked c.in-Some.first) (progress_of c.walk_with.new.now)
@@ -30,7 +31,7 @@ first_walked g t c =
     (bound_of c.args.bound.now).prices (progress_of c.args.now.now))) c.in-Some.is c.in_ok-first.ensures.walked
 
 -- and then the second one
-second_walked : (g : _) (t : ℕ) (c : goal.fork-In-Some-2 g t)
+second_walked : (g : _) (t : ℕ) (c : fork-In-Some-2 g t)
     → walks.walked (search_of c.args.search.now) (c.args.room - 1) 200
     (turned_pair c.args.pair ∷ pairs_of c.args.settled.now.items) (bound_of c.args.bound.now).prices
     (progress_of c.walk_with.new.now)
@@ -48,7 +49,7 @@ second_walked g t c =
     (later (c.turned-back.result ∷ pairs_of c.walk_with.new.settled.items))) c.in-Some-2.is c.in_ok-second.ensures.walked
 
 -- so the fork counts as many branch nodes as were counted
-fork_counts : (g : _) (t : ℕ) (c : goal.fork-In-Some-2 g t) (d : OpenPair) → IsForkAt d c.args.pair
+fork_counts : (g : _) (t : ℕ) (c : fork-In-Some-2 g t) (d : OpenPair) → IsForkAt d c.args.pair
     → c.walk_with-2.new.now.branches
     ≤ counted (fork_at (search_of c.args.search.now) c.args.room d (bound_of c.args.bound.now)
     (pairs_of c.args.settled.now.items) (progress_of c.args.now.now))
@@ -57,12 +58,12 @@ fork_counts g t c d at =
     let same = second_few q.problem q.budget c.args.room (c.args.room - 1) (omega (arith, c.if-room-eq0.false)) d c.args.pair
     at (bound_of c.args.bound.now) (pairs_of c.args.settled.now.items) (progress_of c.args.now.now)
     (progress_of c.walk_with.new.now) (plain_walked c.in-Some.first)
-    (first_walked g t (goal.at.fork-In-Some-2 g t c).fork-In-Some) in
+    (first_walked g t (goal.at.fork-In-Some-2 g t c).In-Some) in
     let count = ap counted (second_walked g t c) in
     omega (arith, same, count)
 
 -- the rounds of a node are over
-rounds_over : (g : _) (t : ℕ) (c : goal.walk-Else-not-ascend g t)
+rounds_over : (g : _) (t : ℕ) (c : walk-Else-not-ascend g t)
     → rounds.ascended (search_of c.args.search.now) (pairs_of c.args.settled.now.items) 200 c.args.prices.now
     (progress_of c.args.now.now).incumbent (progress_of c.args.now.now).branches
     ≡ rounds.over (ascent_of c.ascend.new.now c.ascend.new.ascent)
@@ -73,7 +74,7 @@ rounds_over g t c =
     (c.in_ok-ascent.ensures.first c.args.now.now) (c.if-not-ascend.ensures.over refl)
 
 -- what it then is
-node_is : (g : _) (t : ℕ) (c : goal.walk-In_ok-tree g t)
+node_is : (g : _) (t : ℕ) (c : walk-In_ok-tree g t)
     → EndIs c.args.search.now.part.problem.now (pairs_of c.args.settled.now.items)
     (ascent_of c.ascend.new.now c.ascend.new.ascent) (progress_of c.node_end.new.now) c.in_ok-tree.field-0
 node_is g t c =
@@ -101,12 +102,12 @@ fork-listed-requires g t c =
 pub fork-returns-in_err-new-clause-few : goal.fork-returns-in_err-new-clause-few
 fork-returns-in_err-new-clause-few g t c =
     err_all c.from_residual-in_err-new.result
-    (fork_counts g t (goal.at.fork-returns-in_err-new-clause-few g t c).fork-In-Some-2)
+    (fork_counts g t (goal.at.fork-returns-in_err-new-clause-few g t c).In-Some-2)
 
 pub fork-returns-in_err-new-2-clause-few : goal.fork-returns-in_err-new-2-clause-few
 fork-returns-in_err-new-2-clause-few g t c =
     err_all c.from_residual-in_err-new-2.result
-    (fork_counts g t (goal.at.fork-returns-in_err-new-2-clause-few g t c).fork-In-Some-2)
+    (fork_counts g t (goal.at.fork-returns-in_err-new-2-clause-few g t c).In-Some-2)
 
 pub fork-returns-clause-walked : goal.fork-returns-clause-walked
 fork-returns-clause-walked g t c =
@@ -119,8 +120,8 @@ fork-returns-clause-walked g t c =
     λ d at. fork_made (search_of c.args.search.now) c.args.room (c.args.room - 1)
     (omega (arith, c.if-room-eq0.false)) d c.args.pair at bound (pairs_of c.args.settled.now.items)
     (progress_of c.args.now.now) (progress_of c.walk_with.new.now) (progress_of c.walk_with-2.new.now)
-    (plain_walked c.in-Some.first) (plain_walked c.in-Some-2.second) (first_walked g t on.fork-In-Some)
-    (second_walked g t on.fork-In-Some-2)
+    (plain_walked c.in-Some.first) (plain_walked c.in-Some-2.second) (first_walked g t on.In-Some)
+    (second_walked g t on.In-Some-2)
     ∙ ap (λ (u : walks.WalkedTree). walks.whole u (progress_of c.walk_with-2.new.now))
     (forked_is (to_z w64 (of_z w64 c.args.bound.now.value)) c.args.bound.now.value c.in_ok-prices.prices
     (listed bound.prices) c.args.pair.seg c.args.pair.first c.args.pair.second c.in_ok-new.field-0.value
@@ -157,7 +158,7 @@ walk-returns-in_err-tree-clause-few g t c =
     let q : rounds.Search = search_of c.args.search.now in
     let few = walk_few q.problem q.budget c.args.room (pairs_of c.args.settled.now.items) c.args.prices.now
     (progress_of c.args.now.now) (ascent_of c.ascend.new.now c.ascend.new.ascent)
-    (rounds_over g t (goal.at.walk-returns-in_err-tree-clause-few g t c).walk-Else-not-ascend)
+    (rounds_over g t (goal.at.walk-returns-in_err-tree-clause-few g t c).Else-not-ascend)
     c.ascend.ensures.now.within in
     let same = c.node_end.ensures.branches in
     err_all c.from_residual-in_err-tree.result (omega (arith, few, same))
@@ -180,9 +181,9 @@ walk-returns-in-Stop-clause-walked g t c =
     let next : walks.Progress = progress_of c.node_end.new.now in
     let stops : (f : Option walks.Below) → walks.at_node q.problem f settled a
     ≡ walks.whole (plain_walked c.in-Stop.tree) next =
-    subst (λ (x : NodeEnd). EndIs q.problem settled a next x) c.in-Stop.is (node_is g t on.walk-In_ok-tree) in
+    subst (λ (x : NodeEnd). EndIs q.problem settled a next x) c.in-Stop.is (node_is g t on.In_ok-tree) in
     walk_over q c.args.room settled c.args.prices.now (progress_of c.args.now.now) a
-    (walks.whole (plain_walked c.in-Stop.tree) next) (rounds_over g t on.walk-Else-not-ascend)
+    (walks.whole (plain_walked c.in-Stop.tree) next) (rounds_over g t on.Else-not-ascend)
     (stops (below q c.args.room))
 
 pub walk-returns-in-Fork-clause-walked : goal.walk-returns-in-Fork-clause-walked
@@ -200,8 +201,8 @@ walk-returns-in-Fork-clause-walked g t c =
     → WalkIs w later (fork_at q c.args.room d bound settled next))
     (λ (w : Option WalkedTree). WalkIs w later (walks.walked q c.args.room 200 settled c.args.prices.now start))
     (λ w h. end_walked q c.args.room settled c.args.prices.now start next a bound c.in-Fork.pair
-    (rounds_over g t on.walk-Else-not-ascend) c.into_bound-bound.ensures w later
-    (subst (λ (x : NodeEnd). EndIs q.problem settled a next x) c.in-Fork.is (node_is g t on.walk-In_ok-tree)) h)
+    (rounds_over g t on.Else-not-ascend) c.into_bound-bound.ensures w later
+    (subst (λ (x : NodeEnd). EndIs q.problem settled a next x) c.in-Fork.is (node_is g t on.In_ok-tree)) h)
     c.fork.ensures.walked
 
 pub walk-returns-in-Fork-clause-few : goal.walk-returns-in-Fork-clause-few
@@ -219,8 +220,8 @@ walk-returns-in-Fork-clause-few g t c =
     → later.branches ≤ counted (fork_at q c.args.room d bound settled next))
     (λ (e : NoMemory). later.branches ≤ counted (walks.walked q c.args.room 200 settled c.args.prices.now start))
     (λ e h. end_few q c.args.room settled c.args.prices.now start next a bound c.in-Fork.pair
-    (rounds_over g t on.walk-Else-not-ascend) c.into_bound-bound.ensures later.branches
-    (subst (λ (x : NodeEnd). EndIs q.problem settled a next x) c.in-Fork.is (node_is g t on.walk-In_ok-tree)) h)
+    (rounds_over g t on.Else-not-ascend) c.into_bound-bound.ensures later.branches
+    (subst (λ (x : NodeEnd). EndIs q.problem settled a next x) c.in-Fork.is (node_is g t on.In_ok-tree)) h)
     c.fork.ensures.few
 
 pub walk_with-returns-in_err-push-clause-few : goal.walk_with-returns-in_err-push-clause-few

@@ -12,16 +12,17 @@ use Rattle.dual_ascent.proofs.Meeting.{left_orders}
 use Rattle.dual_orders.specs.Values.{incumbent_of}
 use Rattle.dual_orders.specs.SettledPairs.{pairs_of}
 use Rattle.kept_trees.proofs.walk.stop_at_orders.Goals as goal
+use Rattle.kept_trees.proofs.walk.stop_at_orders.Goals.{After-put_left}
 
 -- the orders that are left were put in place
-left : (c : goal.After-put_left)
+left : (c : After-put_left)
     → (with_items c.args.now.now.trial c.put_left.new.orders).items
     ≡ orders_left c.args.search.now.part.problem.now (pairs_of c.args.settled.now)
 left c =
     with_items_is c.args.now.now.trial c.put_left.new.orders (c.put_left.auto.orders ∙ c.as_mut_slice.ensures.len)
     ∙ c.put_left.ensures.orders
 
-are_orders : (c : goal.After-put_left)
+are_orders : (c : After-put_left)
     → AreOrders c.args.search.now.part.problem.now.segs (with_items c.args.now.now.trial c.put_left.new.orders).items
 are_orders c =
     let p : ProblemParts = c.args.search.now.part.problem.now in
