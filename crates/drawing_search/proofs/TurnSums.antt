@@ -6,9 +6,10 @@ use Rattle.octi_grid.specs.declared.dir.Dir.TheVariants as dir
 use Rattle.octi_grid.specs.Costs.{clockwise_from, step_cost, turn_between, way_cost}
 use Rattle.octi_grid.specs.Walks.{last_of}
 use Rattle.octi_grid.specs.Ways.{number_of, reverse_of}
-use Rattle.octi_grid.proofs.CostLemmas.{number_small}
+use Rattle.octi_grid.proofs.CostLemmas.{number_small, turn_none}
 use Rattle.drawing_weights.specs.Weights.{turns_of}
 use Rattle.run_laying.proofs.Reversed.{turned}
+use Rattle.walk_search.proofs.TurnsDue.{turn_shorter}
 
 -- the steps alone, without turns
 abbrev pub steps_cost : List Dir → ℕ
@@ -105,37 +106,6 @@ turns_back (d ∷ e ∷ ds) =
 
 -- ---- a way that turns less than from its first direction to its last one there is none
 
--- the turn from one direction over another is no less than the turn straight on: the one way round, or the other
-on_round : (x y z : ℕ) → x ≤ 7 → y ≤ 7 → z ≤ 7 → (z + 8 - x) % 8 ≤ (y + 8 - x) % 8 + (z + 8 - y) % 8
-on_round x y z h k l = omega arith
-
-back_and_on : (x y z : ℕ) → x ≤ 7 → y ≤ 7 → z ≤ 7 → min ((z + 8 - x) % 8) ((x + 8 - z) % 8) ≤ (x + 8 - y) % 8 + (z + 8 - y) % 8
-back_and_on x y z h k l = omega arith
-
-on_and_back : (x y z : ℕ) → x ≤ 7 → y ≤ 7 → z ≤ 7 → min ((z + 8 - x) % 8) ((x + 8 - z) % 8) ≤ (y + 8 - x) % 8 + (y + 8 - z) % 8
-on_and_back x y z h k l = omega arith
-
-least_of_four : (m n a b c d : ℕ) → m ≤ a + c → n ≤ d + b → min m n ≤ b + c → min m n ≤ a + d → min m n ≤ min a b + min c d
-least_of_four m n a b c d one two three four = omega (arith, one, two, three, four)
-
-pub turn_shorter : (a b c : Dir) → turn_between a c ≤ turn_between a b + turn_between b c
-turn_shorter a b c =
-    let x = number_small a in
-    let y = number_small b in
-    let z = number_small c in
-    least_of_four (clockwise_from a c) (clockwise_from c a) (clockwise_from a b) (clockwise_from b a) (clockwise_from b c) (clockwise_from c b) (on_round (number_of a) (number_of b) (number_of c) x y z)
-    (on_round (number_of c) (number_of b) (number_of a) z y x) (back_and_on (number_of a) (number_of b) (number_of c) x y z) (on_and_back (number_of a) (number_of b) (number_of c) x y z)
-
-turn_itself : (d : Dir) → turn_between d d ≡ 0
-turn_itself dir.N = refl
-turn_itself dir.NE = refl
-turn_itself dir.E = refl
-turn_itself dir.SE = refl
-turn_itself dir.S = refl
-turn_itself dir.SW = refl
-turn_itself dir.W = refl
-turn_itself dir.NW = refl
-
 pub turns_enough : (d : Dir) (ds : List Dir) (e : Dir) → last_of (d ∷ ds) ≡ Some e → turn_between d e ≤ turns_of (d ∷ ds)
-turns_enough d [] e last = let same : d ≡ e = cc in omega (arith, ap (turn_between d) (sym same), turn_itself d)
+turns_enough d [] e last = let same : d ≡ e = cc in omega (arith, ap (turn_between d) (sym same), turn_none d)
 turns_enough d (f ∷ ds) e last = omega (arith, turn_shorter d f e, turns_enough f ds e last)

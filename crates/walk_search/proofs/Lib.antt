@@ -1,5 +1,6 @@
 pub mod Turning
 pub mod LeastReach
+pub mod TurnsDue
 pub mod Numbered
 pub mod SeatFacts
 pub mod Moving

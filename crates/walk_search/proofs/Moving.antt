@@ -1,9 +1,10 @@
 -- Moves from spot to spot are steps that a search may rest on.
 use Rattle.std.proofs.Common.{◌≡◌, refl, sym, ◌∙◌, ap, subst, ℕ, ◌+◌, ◌<◌, ◌≤◌, ◌⊎◌, inl, inr, Bool, true, false, cond, eqb, ltb, ◌&&◌, ◌||◌, length, Option, Some, None, arith}
-use Rattle.std.proofs.lemmas.Bool.{and_parts, ltb-true}
+use Rattle.std.proofs.lemmas.Bool.{and_parts, ltb-true, ne_eqb}
 use Rattle.least_path.proofs.Chosen.{all-at}
 use Rattle.octi_grid.specs.declared.dir.Dir.{Dir}
-use Rattle.octi_grid.specs.Ways.{reverse_of, step_from}
+use Rattle.octi_grid.specs.Ways.{are_one, reverse_of, step_from}
+use Rattle.octi_grid.specs.declared.point.GridPoint.{GridPoint}
 use Rattle.octi_grid.specs.Costs.{step_cost, turn_between}
 use Rattle.octi_grid.specs.Legal.{is_among}
 use Rattle.octi_grid.proofs.CostLemmas.{step_cost_small, turn_small}
@@ -14,10 +15,12 @@ use Rattle.walk_search.specs.Seats.{seat_cost}
 use Rattle.walk_search.specs.Routes.{allows}
 use Rattle.walk_search.specs.Reaching.{reach_of}
 use Rattle.walk_search.specs.Spots.{IsSpot, number_of_spot, spots_of, spot_of}
-use Rattle.walk_search.specs.Moves.{Question, IsQuestion, IsMove, chosen_seat, direction, end_cost, ends_of, group_of, is_end, is_open, is_other_end, may_end, may_leave, move_of, space_of, spot_ahead, start_at, starts_of, stepped, turn_from}
+use Rattle.walk_search.specs.Moves.{Question, IsQuestion, IsMove, ahead_at, chosen_seat, direction, end_cost, ends_of, group_of, is_end, is_open, is_other_end, is_passable, is_start, may_end, may_leave, move_of, space_of, spot_ahead, start_at, starts_of, stepped, turn_from, turns_due}
 use Rattle.walk_search.proofs.Numbered.{number_below_spots, spot_of-number, spot_of-is}
 use Rattle.walk_search.proofs.LeastReach.{reach_seat, reach_step}
-use Rattle.walk_search.proofs.Turning.{step_cost_from}
+use Rattle.grid_board.proofs.Marks.{one_true}
+use Rattle.walk_search.proofs.Turning.{step_back, step_cost_from, step_there}
+use Rattle.walk_search.proofs.TurnsDue.{due_farther, due_first, due_once}
 use Rattle.walk_search.proofs.SeatFacts.{all_index, among_stands, seats_cheap, seats_few, seats_inside}
 
 pub some_same : {X : Type 0} (x y : X) → Some x ≡ Some y → x ≡ y
@@ -109,12 +112,64 @@ turn_from_small a d = of_test (eqb a 8)
     of_test true = omega arith
     of_test false = turn_small (direction a) d
 
+-- ---- what it costs at least to come to a spot rises by no more than a move costs
+
+pub seat_ahead : (q : Question) (p : GridPoint) → ahead_at q p 8 ≤ seat_cost q.from.at p + 1
+seat_ahead q p = of_test (are_one q.from.at p)
+  where
+    of_test : (t : Bool) → reach_of q.from.at p + cond t 0 1 ≤ seat_cost q.from.at p + 1
+    of_test true = omega (arith, reach_seat q.from.at p)
+    of_test false = omega (arith, reach_seat q.from.at p)
+
+-- by an allowed port from a seat no turn is due but where that is not the home
+start_due : (q : Question) (p : GridPoint) (l : ℕ) → l < 8 → allows q.from.ports (Some (direction l)) ≡ true →
+    turns_due q (step_from p (direction l)) (direction l) ≤ cond (are_one q.from.at p) 0 1
+start_due q p l below e = of_test (are_one q.from.at p) refl
+  where
+    of_test : (t : Bool) → are_one q.from.at p ≡ t → turns_due q (step_from p (direction l)) (direction l) ≤ cond t 0 1
+    of_test true h =
+        subst (λ (r : GridPoint). turns_due q (step_from r (direction l)) (direction l) ≤ 0) (one_true q.from.at p h) (let none = due_first q l below e in omega (arith, none))
+    of_test false h = due_once q (step_from p (direction l)) l below e
+
+pub step_ahead : (q : Question) (s : Spot) (l : ℕ) (landing : Spot) (c : ℕ) → IsStepped q s l landing c → ahead_at q (step_from s.at (direction l)) l ≤ ahead_at q s.at s.arrival + c
+step_ahead q s l landing c m =
+    subst (λ (k : ℕ). k ≤ ahead_at q s.at s.arrival + c) (sym after) (of_start (eqb s.arrival 8) refl)
+  where
+    d : Dir
+    d = direction l
+
+    after : ahead_at q (step_from s.at d) l ≡ reach_of q.from.at s.at + (step_cost d + turns_due q (step_from s.at d) d)
+    after =
+        let no_start : l ≡ 8 → ⊥ = λ e. let below : l < 8 = m.below in omega arith in
+        ap (λ t. cond t (reach_of q.from.at (step_from s.at d) + cond (are_one q.from.at (step_from s.at d)) 0 1) (reach_of q.from.at (step_from (step_from s.at d) (reverse_of d)) + (step_cost d + turns_due q (step_from s.at d) d))) (ne_eqb l 8 no_start)
+        ∙ ap (λ (p : GridPoint). reach_of q.from.at p + (step_cost d + turns_due q (step_from s.at d) d)) (step_back s.at d)
+
+    of_start : (t : Bool) → eqb s.arrival 8 ≡ t → reach_of q.from.at s.at + (step_cost d + turns_due q (step_from s.at d) d) ≤ ahead_at q s.at s.arrival + c
+    of_start true e =
+        let here : ahead_at q s.at s.arrival ≡ reach_of q.from.at s.at + cond (are_one q.from.at s.at) 0 1 =
+        ap (λ t. cond t (reach_of q.from.at s.at + cond (are_one q.from.at s.at) 0 1) (reach_of q.from.at (step_from s.at (reverse_of (direction s.arrival))) + (step_cost (direction s.arrival) + turns_due q s.at (direction s.arrival)))) e in
+        let leaves : (is_start q s.at s.group && allows q.from.ports (Some d)) ≡ true =
+        sym (ap (λ t. cond t (is_start q s.at s.group && allows q.from.ports (Some d)) (is_passable q.board s.at)) e) ∙ m.leaves in
+        let due = start_due q s.at l m.below (and_parts (is_start q s.at s.group) (allows q.from.ports (Some d)) leaves).1 in
+        let cost : c ≡ step_cost d + turn_from s.arrival d = m.cost in
+        omega (arith, here, due, cost)
+    of_start false e =
+        let a : Dir = direction s.arrival in
+        let here : ahead_at q s.at s.arrival ≡ reach_of q.from.at (step_from s.at (reverse_of a)) + (step_cost a + turns_due q s.at a) =
+        ap (λ t. cond t (reach_of q.from.at s.at + cond (are_one q.from.at s.at) 0 1) (reach_of q.from.at (step_from s.at (reverse_of a)) + (step_cost a + turns_due q s.at a))) e in
+        let reached : reach_of q.from.at s.at ≤ reach_of q.from.at (step_from s.at (reverse_of a)) + step_cost a =
+        subst (λ (p : GridPoint). reach_of q.from.at p ≤ reach_of q.from.at (step_from s.at (reverse_of a)) + step_cost a) (step_there s.at a) (reach_step q.from.at (step_from s.at (reverse_of a)) a) in
+        let due = due_farther q s.at a d in
+        let turn : turn_from s.arrival d ≡ turn_between a d = ap (λ t. cond t 0 (turn_between a d)) e in
+        let cost : c ≡ step_cost d + turn_from s.arrival d = m.cost in
+        omega (arith, here, reached, due, turn, cost)
+
 -- what a move by numbers is
 pub record IsMoved (q : Question) (a l c : ℕ) (landing : Spot) : Type 0 where
   pub spot : IsSpot q.board.bounds landing
   pub cost_from : 1 ≤ c
   pub cost_to : c ≤ 21
-  pub rises : reach_of q.from.at landing.at ≤ spot_ahead q (spot_of q.board.bounds a) + c
+  pub rises : ahead_at q landing.at landing.arrival ≤ spot_ahead q (spot_of q.board.bounds a) + c
 
 pub moved : (q : Question) → IsQuestion q → (a l c : ℕ) (landing : Spot) → a < spots_of q.board.bounds + 1 → move_of q (spot_of q.board.bounds a) l ≡ Some (landing, c) → IsMoved q a l c landing
 moved q h a l c landing below goes = of_case (move_cases q (spot_of q.board.bounds a) l landing c goes)
@@ -125,14 +180,10 @@ moved q h a l c landing below goes = of_case (move_cases q (spot_of q.board.boun
       cost_from = omega (arith, m.cost);
       cost_to = omega (arith, m.cost, start_cheap q l m.below);
       rises =
-          let reach : reach_of q.from.at landing.at ≤ seat_cost q.from.at (start_at q l) =
-          subst (λ (s : Spot). reach_of q.from.at s.at ≤ seat_cost q.from.at (start_at q l)) (sym m.lands) (reach_seat q.from.at (start_at q l)) in
+          let at_seat : ahead_at q (start_at q l) 8 ≤ seat_cost q.from.at (start_at q l) + 1 = seat_ahead q (start_at q l) in
           let cost : c ≡ seat_cost q.from.at (start_at q l) + 1 = m.cost in
-          above (reach_of q.from.at landing.at) (seat_cost q.from.at (start_at q l)) (spot_ahead q (spot_of q.board.bounds a)) reach cost;
+          subst (λ (s : Spot). ahead_at q s.at s.arrival ≤ spot_ahead q (spot_of q.board.bounds a) + c) (sym m.lands) (omega (arith, at_seat, cost));
     }
-      where
-        above : (r k o : ℕ) → r ≤ k → c ≡ k + 1 → r ≤ o + c
-        above r k o x y = omega arith
 
     of_stepped : (s : Spot) → spot_of q.board.bounds a ≡ Some s → IsStepped q s l landing c → IsMoved q a l c landing
     of_stepped s e m =
@@ -142,13 +193,9 @@ moved q h a l c landing below goes = of_case (move_cases q (spot_of q.board.boun
           cost_from = omega (arith, m.cost, step_cost_from (direction l));
           cost_to = omega (arith, m.cost, step_cost_small (direction l), turn_from_small s.arrival (direction l));
           rises =
-              subst (λ (o : Option Spot). reach_of q.from.at landing.at ≤ spot_ahead q o + c) (sym e)
-              (above (reach_of q.from.at landing.at) (reach_of q.from.at (step_from s.at (direction l))) (reach_of q.from.at s.at) (step_cost (direction l)) (turn_from s.arrival (direction l))
-              (ap (λ (x : Spot). reach_of q.from.at x.at) m.lands) (reach_step q.from.at s.at (direction l)) m.cost);
+              subst (λ (o : Option Spot). ahead_at q landing.at landing.arrival ≤ spot_ahead q o + c) (sym e)
+              (subst (λ (x : Spot). ahead_at q x.at x.arrival ≤ ahead_at q s.at s.arrival + c) (sym m.lands) (step_ahead q s l landing c m));
         }
-      where
-        above : (r k o e t : ℕ) → r ≡ k → k ≤ o + e → c ≡ e + t → r ≤ o + c
-        above r k o e t x y z = omega arith
 
     of_case : ((spot_of q.board.bounds a ≡ None) × IsChosen q l landing c) ⊎ ((s : Spot) × (spot_of q.board.bounds a ≡ Some s) × IsStepped q s l landing c) → IsMoved q a l c landing
     of_case (inl m) = of_chosen m.0 m.1

@@ -16,9 +16,8 @@ use Rattle.walk_search.specs.declared.spots.Spot.{Spot}
 use Rattle.grid_board.specs.Boards.{AreBounds, contains}
 use Rattle.walk_search.specs.Seats.{seat_cost}
 use Rattle.walk_search.specs.Routes.{allows}
-use Rattle.walk_search.specs.Reaching.{reach_of}
 use Rattle.walk_search.specs.Spots.{IsSpot, number_of_place, number_of_spot, spots_of}
-use Rattle.walk_search.specs.Moves.{Question, direction, end_cost, ends_of, group_of, is_end, is_open, is_start, may_end, space_of, spot_ahead, start_at, starts_of}
+use Rattle.walk_search.specs.Moves.{Question, ahead_at, direction, end_cost, ends_of, group_of, is_end, is_open, is_start, may_end, space_of, spot_ahead, start_at, starts_of}
 use Rattle.octi_grid.specs.Legal.{is_among}
 use Rattle.state_search.specs.Rows.{IsRowLowered, IsRowOffered, with_row}
 use Rattle.walk_search.specs.Offers.{arrival_offer, back_offers, end_offer, offer_where, offers_at_end, passing_offers, seat_offer, seat_offers, spot_offers, start_offers}
@@ -38,15 +37,15 @@ Waiting = List (Reverse (ℕ × ℕ))
 pub lowered_one : (ahead : ℕ → ℕ) (old new : Table) (queue longer : Waiting) (at cost : ℕ) → IsLowered (ahead at) old new queue longer at cost → AreLowered ahead old new queue longer ((at, cost) ∷ [])
 lowered_one ahead old new queue longer at cost h = (new, longer, h, (refl, refl))
 
--- a spot, by its number and by what lies ahead of its point
-pub offered_spot : (q : Question) (s : Spot) (old new : Table) (queue longer : Waiting) (ahead at cost : ℕ) → IsSpot q.board.bounds s → ahead ≡ reach_of q.from.at s.at → at ≡ number_of_spot q.board.bounds s →
+-- a spot, by its number and by what it costs at least to come to it
+pub offered_spot : (q : Question) (s : Spot) (old new : Table) (queue longer : Waiting) (ahead at cost : ℕ) → IsSpot q.board.bounds s → ahead ≡ ahead_at q s.at s.arrival → at ≡ number_of_spot q.board.bounds s →
     IsLowered ahead old new queue longer at cost → IsLowered ((space_of q).ahead (number_of_spot q.board.bounds s)) old new queue longer (number_of_spot q.board.bounds s) cost
 offered_spot q s old new queue longer ahead at cost on is number h =
     let same : ahead ≡ (space_of q).ahead (number_of_spot q.board.bounds s) = is ∙ sym (ap (spot_ahead q) (spot_of-number q.board.bounds s on)) in
     subst (λ (m : ℕ). IsLowered m old new queue longer (number_of_spot q.board.bounds s) cost) same (subst (λ (n : ℕ). IsLowered ahead old new queue longer n cost) number h)
 
 -- a spot, by the row of its place
-pub offered_in_row : (q : Question) (s : Spot) (table row new : Table) (queue longer : Waiting) (place ahead cost : ℕ) → IsSpot q.board.bounds s → ahead ≡ reach_of q.from.at s.at → place ≡ number_of_place q.board.bounds s.at s.group →
+pub offered_in_row : (q : Question) (s : Spot) (table row new : Table) (queue longer : Waiting) (place ahead cost : ℕ) → IsSpot q.board.bounds s → ahead ≡ ahead_at q s.at s.arrival → place ≡ number_of_place q.board.bounds s.at s.group →
     place * 9 + 9 ≤ length table → length row ≡ 9 → IsRowLowered place ahead row new queue longer s.arrival cost →
     IsLowered ((space_of q).ahead (number_of_spot q.board.bounds s)) (with_row table place row) (with_row table place new) queue longer (number_of_spot q.board.bounds s) cost
 offered_in_row q s table row new queue longer place ahead cost on is number fits nine h =
@@ -71,7 +70,7 @@ nothing_at_end q p group e = none (range_with_len 0 8)
     none (a ∷ arrivals) = ap (λ xs. xs ++ flat_map (end_offer q p group) arrivals) (one a) ∙ none arrivals
 
 pub offered_end : (q : Question) (p : GridPoint) (group arrival : ℕ) (table row new : Table) (queue longer : Waiting) (place ahead cost : ℕ) → is_end q p group ≡ true → arrival < 8 → IsSpot q.board.bounds (record { at = p; arrival = arrival; group = group }) →
-    ahead ≡ reach_of q.from.at p → place ≡ number_of_place q.board.bounds p group → cost ≡ seat_cost q.to.at p → place * 9 + 9 ≤ length table → length row ≡ 9 →
+    ahead ≡ ahead_at q p arrival → place ≡ number_of_place q.board.bounds p group → cost ≡ seat_cost q.to.at p → place * 9 + 9 ≤ length table → length row ≡ 9 →
     IsRowOffered (allows q.to.ports (Some (reverse_of (direction arrival)))) place ahead row new queue longer arrival cost →
     AreLowered (space_of q).ahead (with_row table place row) (with_row table place new) queue longer (end_offer q p group arrival)
 offered_end q p group arrival table row new queue longer place ahead cost ends small on is number pays fits nine h =

@@ -1,5 +1,5 @@
 -- How walks go on from spot to spot, and where they may end.
-use Rattle.std.specs.Prelude.{◌≡◌, ◌≢◌, ℕ, ◌+◌, ◌-◌, ◌<◌, ◌==◌, ◌||◌, ◌&&◌, nat_lt, nat_le, Bool, true, not, List, length, if◌then◌else◌, Option, Some, None, slice_index_or}
+use Rattle.std.specs.Prelude.{◌≡◌, ◌≢◌, ℕ, zero, suc, ◌+◌, ◌-◌, ◌<◌, ◌==◌, ◌||◌, ◌&&◌, nat_lt, nat_le, Bool, true, not, List, length, map, if◌then◌else◌, Option, Some, None, slice_index_or, max, min}
 use Rattle.octi_grid.specs.declared.dir.Dir.{Dir}
 use Rattle.octi_grid.specs.declared.dir.Dir.TheVariants as dir
 use Rattle.octi_grid.specs.declared.point.GridPoint.{GridPoint}
@@ -12,7 +12,7 @@ use Rattle.walk_search.specs.declared.spots.Spot.{Spot}
 use Rattle.grid_board.specs.Boards.{BoardParts, IsBoard, is_inside}
 use Rattle.walk_search.specs.Seats.{seats_of, seat_cost}
 use Rattle.walk_search.specs.Routes.{allows, directions}
-use Rattle.walk_search.specs.Reaching.{reach_of}
+use Rattle.walk_search.specs.Reaching.{lies_along, reach_of}
 use Rattle.walk_search.specs.Spots.{spots_of, spot_of, number_of_spot}
 
 -- what is asked: the least free walk on a board between two ends
@@ -48,11 +48,6 @@ pub record IsQuestion (q : Question) : Type 0 where
   pub from_ports : q.from.is_free ≡ true → is_all_or_none q.from.ports ≡ true
   pub to_ports : q.to.is_free ≡ true → is_all_or_none q.to.ports ≡ true
 
--- the seats are those of both ends
-pub record IsAsked (q : Question) (starts ends : List GridPoint) : Type 0 where
-  pub asked : IsQuestion q
-  pub starts_are : starts ≡ starts_of q
-  pub ends_are : ends ≡ ends_of q
 
 -- the direction of a number
 abbrev pub direction : ℕ → Dir
@@ -137,10 +132,35 @@ pub record IsMove (q : Question) (n l m c : ℕ) : Type 0 where
   pub goes : move_of q (spot_of q.board.bounds n) l ≡ Some (landing, c)
   pub lands : m ≡ number_of_spot q.board.bounds landing
 
+-- the least turn from one of the first so many directions, as far as their ports are allowed, to a direction; 4 where
+-- none is
+abbrev pub least_turn : ℕ → Dir → ℕ → ℕ
+least_turn ports d zero = 4
+least_turn ports d (suc n) = min (least_turn ports d n) (if allows ports (Some (direction n)) then turn_between (direction n) d else 4)
+
+-- the turns that a walk makes at least that leaves its start by an allowed port and comes to a point in a direction: it
+-- comes there without any where the point lies in that direction from the start
+abbrev pub turns_due : Question → GridPoint → Dir → ℕ
+turns_due q p d =
+    if lies_along q.from.at p d then least_turn q.from.ports d 8 else max 1 (least_turn q.from.ports d 8)
+
+-- the seats are those of both ends, and the turns the least to each direction
+pub record IsAsked (q : Question) (starts ends : List GridPoint) (turns : List ℕ) : Type 0 where
+  pub asked : IsQuestion q
+  pub starts_are : starts ≡ starts_of q
+  pub ends_are : ends ≡ ends_of q
+  pub turns_are : turns ≡ map (λ d. least_turn q.from.ports d 8) directions
+
+-- what it costs at least to come to a point by the direction of a number, or to choose it as the seat that a walk starts at
+abbrev pub ahead_at : Question → GridPoint → ℕ → ℕ
+ahead_at q p arrival =
+    if arrival == 8 then reach_of q.from.at p + (if are_one q.from.at p then 0 else 1)
+    else reach_of q.from.at (step_from p (reverse_of (direction arrival))) + (step_cost (direction arrival) + turns_due q p (direction arrival))
+
 -- what it costs at least to come to a spot
 abbrev pub spot_ahead : Question → Option Spot → ℕ
 spot_ahead q None = 0
-spot_ahead q (Some s) = reach_of q.from.at s.at
+spot_ahead q (Some s) = ahead_at q s.at s.arrival
 
 -- the spots as states of a search
 abbrev pub space_of : Question → Space

@@ -1,26 +1,25 @@
 //! What is asked of a search, and the steps of walks from spot to spot.
 
-ghost use Rattle.std.specs.Prelude.{◌≡◌, ℕ, ◌+◌, ◌*◌, ◌^◌, ◌<◌, ◌≤◌, ◌&&◌, not, IfOk, IfSome, Some, true, length, option_map};
+ghost use Rattle.std.specs.Prelude.{◌≡◌, ℕ, ◌+◌, ◌*◌, ◌^◌, ◌<◌, ◌≤◌, ◌&&◌, not, IfOk, IfSome, Some, true, if◌then◌else◌, length, map, option_map};
 ghost use Rattle.octi_grid.specs.Ways.{CanStep, doubled, reverse_of, step_from};
-ghost use Rattle.walk_search.specs.Reaching.{reach_of};
-ghost use Rattle.walk_search.specs.Routes.{allows};
+ghost use Rattle.octi_grid.specs.Costs.{turn_between};
+ghost use Rattle.walk_search.specs.Routes.{allows, directions};
 ghost use Rattle.walk_search.specs.Seats.{seat_cost};
 ghost use Rattle.grid_board.specs.Boards.{is_inside, parts_of};
 ghost use Rattle.walk_search.specs.Spots.{IsSpot, number_of_place, number_of_spot, spot_of, spots_of};
 ghost use Rattle.std.specs.List.{list_any};
 ghost use Rattle.octi_grid.specs.Legal.{is_among};
 ghost use Rattle.walk_search.specs.Enclosed.{leads_on, leaves_start};
-ghost use Rattle.walk_search.specs.Moves.{IsAsked, IsQuestion, chosen_seat, direction, end_at, end_cost, ends_of, group_of, is_end, is_open, is_other_end, is_own_start, is_passable, is_shared_start, is_start, may_end, may_leave, start_at, starts_of, stepped, turn_from};
+ghost use Rattle.walk_search.specs.Moves.{IsAsked, IsQuestion, ahead_at, chosen_seat, direction, end_at, end_cost, ends_of, group_of, is_end, is_open, is_other_end, is_own_start, is_passable, is_shared_start, is_start, least_turn, may_end, may_leave, start_at, starts_of, stepped, turn_from, turns_due};
 
 use crate::directions::{allows, direction};
 use crate::ends::End;
-use crate::reaching::reach;
+use crate::reaching::{lies_along, reach};
 use crate::seats::{are_one, doubled_within, have_common, is_among, is_clear, seat_cost, seats_of};
 use crate::spots::{Spot, number_of_place, number_of_spot, spot_of, spots_of};
 use grid_board::Board;
 use map_base::NoMemory;
 use octi_grid::{Dir, GridPoint, step_cost, turn_cost};
-use state_search::Place;
 use std::alloc::Global;
 
 /// The number of the arrival of a walk at its start.
@@ -34,7 +33,8 @@ pub(crate) struct Asked<'a> {
     to: End,
     starts: Vec<GridPoint>,
     ends: Vec<GridPoint>,
-    ghost asked: { IsAsked (record { board = parts_of board.now; from = from; to = to }) starts.items ends.items },
+    turns: [u8; 8],
+    ghost asked: { IsAsked (record { board = parts_of board.now; from = from; to = to }) starts.items ends.items turns },
 }
 
 impl<'a> Asked<'a> {
@@ -58,6 +58,7 @@ impl<'a> Asked<'a> {
             to,
             starts,
             ends,
+            turns: least_turns(from.ports),
         })
     }
 
@@ -79,20 +80,15 @@ impl<'a> Asked<'a> {
         number_of_spot(self.board.bounds(), spot)
     }
 
-    /// The place of a group of walks at a point.
-    pub(crate) fn place_of(&self, p: GridPoint, group: u8) -> Place
+    /// The number of the place of a group of walks at a point.
+    pub(crate) fn place_of(&self, p: GridPoint, group: u8) -> u32
         requires inside { is_inside (question self.now).board p ≡ true }
         requires group { group < 10 }
-        ensures number { result.number ≡ number_of_place (question self.now).board.bounds p group }
-        ensures within { result.number * 9 + 9 ≤ spots_of (question self.now).board.bounds }
-        ensures few { result.number < 2 ^ 28 }
-        ensures ahead { result.ahead ≡ reach_of (question self.now).from.at p }
-        ensures near { result.ahead < 2 ^ 40 }
+        ensures value { result ≡ number_of_place (question self.now).board.bounds p group }
+        ensures within { result * 9 + 9 ≤ spots_of (question self.now).board.bounds }
+        ensures few { result < 2 ^ 28 }
     {
-        Place {
-            number: number_of_place(self.board.bounds(), p, group),
-            ahead: self.ahead_of(p),
-        }
+        number_of_place(self.board.bounds(), p, group)
     }
 
     /// The spot of a number, and none before a seat is chosen.
@@ -420,13 +416,82 @@ impl<'a> Asked<'a> {
         ))
     }
 
-    /// What it costs at least to come to a point from the home of the start.
-    pub(crate) fn ahead_of(&self, p: GridPoint) -> u64
-        ensures value { result ≡ reach_of (question self.now).from.at p }
+    /// What it costs at least to come to a point by the direction of a number, or to choose it as the seat that a walk
+    /// starts at.
+    pub(crate) fn ahead_at(&self, p: GridPoint, arrival: u8) -> u64
+        requires inside { is_inside (question self.now).board p ≡ true }
+        requires arrival { arrival < 9 }
+        ensures value { result ≡ ahead_at (question self.now) p arrival }
         ensures within { result < 2 ^ 40 }
     {
-        reach(self.from.at, p)
+        if arrival == START {
+            return reach(self.from.at, p) + u64::from(!are_one(self.from.at, p));
+        }
+        self.ahead_by(p, arrival)
     }
+
+    /// The same by a direction.
+    fn ahead_by(&self, p: GridPoint, arrival: u8) -> u64
+        requires inside { is_inside (question self.now).board p ≡ true }
+        requires arrival { arrival < 8 }
+        ensures value { result ≡ ahead_at (question self.now) p arrival }
+        ensures within { result < 2 ^ 40 }
+    {
+        let dir = direction(arrival);
+        let before = p.step(dir.reverse());
+        let due = self.turns_due(p, arrival);
+        reach(self.from.at, before) + (u64::from(step_cost(dir)) + u64::from(due))
+    }
+
+    /// The turns that a walk makes at least that comes to a point by the direction of a number.
+    fn turns_due(&self, p: GridPoint, arrival: u8) -> u8
+        requires arrival { arrival < 8 }
+        ensures value { result ≡ turns_due (question self.now) p (direction arrival) }
+        ensures within { result ≤ 4 }
+    {
+        let least = self.turns[usize::from(arrival)];
+        if lies_along(self.from.at, p, direction(arrival)) {
+            return least;
+        }
+        least.max(1)
+    }
+}
+
+/// The least turn from an allowed port to each direction, 4 where no port is allowed.
+fn least_turns(ports: u8) -> [u8; 8]
+    ensures { result ≡ map (λ d. least_turn ports d 8) directions }
+{
+    [
+        least_turn(ports, Dir::N),
+        least_turn(ports, Dir::NE),
+        least_turn(ports, Dir::E),
+        least_turn(ports, Dir::SE),
+        least_turn(ports, Dir::S),
+        least_turn(ports, Dir::SW),
+        least_turn(ports, Dir::W),
+        least_turn(ports, Dir::NW),
+    ]
+}
+
+/// The least turn from an allowed port to a direction, 4 where no port is allowed.
+fn least_turn(ports: u8, to: Dir) -> u8
+    ensures { result ≡ least_turn ports to 8 }
+{
+    let mut least = 4;
+    for number in 0..START {
+        least = least.min(turn_of_port(ports, direction(number), to));
+    }
+    least
+}
+
+/// The turn from a port to a direction, 4 where the port is not allowed.
+fn turn_of_port(ports: u8, port: Dir, to: Dir) -> u8
+    ensures { result ≡ (if allows ports (Some port) then turn_between port to else 4) }
+{
+    if !allows(ports, port) {
+        return 4;
+    }
+    turn_cost(port, to) as u8
 }
 
 /// What the turn from a direction of arrival costs; at a start there is none.

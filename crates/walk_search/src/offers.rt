@@ -37,7 +37,7 @@ fn offer(
     ensures lowered { OnOk result (IsLowered ((space_of (question asked.now)).ahead (number_of_spot (question asked.now).board.bounds spot)) known.old known.new (heap_items queue.old) (heap_items queue.new) (number_of_spot (question asked.now).board.bounds spot) cost) }
 {
     let number = asked.number_of(spot);
-    lower(known, queue, number, cost, asked.ahead_of(spot.at))
+    lower(known, queue, number, cost, asked.ahead_at(spot.at, spot.arrival))
 }
 
 /// Offers to each spot where a walk may end what it costs to end there.
@@ -97,13 +97,14 @@ fn offer_ends_in(
     ensures each { OnOk result (length known.new ≡ spots_of (question asked.now).board.bounds + 1) }
     ensures lowered { OnOk result (AreLowered (space_of (question asked.now)).ahead known.old known.new (heap_items queue.old) (heap_items queue.new) (offers_at_end (question asked.now) p group 8)) }
 {
-    let place = asked.place_of(p, group);
+    let number = asked.place_of(p, group);
     let cost = asked.to_cost(p);
-    let mut row = known.row(place.number);
+    let mut row = known.row(number);
     for arrival in 0..START {
-        offer_end(asked, place, arrival, cost, &mut row, queue)?;
+        let ahead = asked.ahead_at(p, arrival);
+        offer_end(asked, Place { number, ahead }, arrival, cost, &mut row, queue)?;
     }
-    known.put(place.number, row)
+    known.put(number, row)
 }
 
 /// The same for one direction of arrival, if a walk may come to its end in it.
@@ -308,14 +309,15 @@ fn offer_arrivals(
     ensures each { OnOk result (length known.new ≡ spots_of (question asked.now).board.bounds + 1) }
     ensures lowered { OnOk result (AreLowered (space_of (question asked.now)).ahead known.old known.new (heap_items queue.old) (heap_items queue.new) (arrival_offers (question asked.now) p group dir cost 8)) }
 {
-    let place = asked.place_of(p, group);
+    let number = asked.place_of(p, group);
     let step = u64::from(step_cost(dir));
-    let mut row = known.row(place.number);
+    let mut row = known.row(number);
     for arrival in 0..START {
         let whole = cost + (step + turn_from(arrival, dir));
-        lower_in(&mut row, queue, place, arrival, whole)?;
+        let ahead = asked.ahead_at(p, arrival);
+        lower_in(&mut row, queue, Place { number, ahead }, arrival, whole)?;
     }
-    known.put(place.number, row)
+    known.put(number, row)
 }
 
 /// Offers to the spot of a walk that starts at a point, if one may start there by this port.

@@ -109,7 +109,7 @@ fn ahead_of(asked: &Asked, at: u32) -> u64
 {
     match asked.spot_of(at) {
         None => 0,
-        Some(spot) => asked.ahead_of(spot.at),
+        Some(spot) => asked.ahead_at(spot.at, spot.arrival),
     }
 }
 

@@ -12,5 +12,5 @@ invariant-loop-arrival l = record {
   order : IsHeap queue_cmp (heap_items l.queue);
   whole : length l.row.costs ≡ 9;
   lowered :
-      AreLowered (space_of (question l.asked)).ahead l.initial.known (with_row l.initial.known l.place.number l.row.costs) (heap_items l.initial.queue) (heap_items l.queue) (arrival_offers (question l.asked) l.fn.p l.group l.dir l.cost l.arrival);
+      AreLowered (space_of (question l.asked)).ahead l.initial.known (with_row l.initial.known l.number l.row.costs) (heap_items l.initial.queue) (heap_items l.queue) (arrival_offers (question l.asked) l.fn.p l.group l.dir l.cost l.arrival);
 }

@@ -16,7 +16,7 @@ pub loop-arrival-init : goal.loop-arrival-init
 loop-arrival-init c = record {
   order = c.requires.order;
   whole = c.row-row.ensures.whole;
-  lowered = (ap (with_row c.args.known.now c.place_of-place.result.number) c.row-row.ensures.value ∙ with_row-same c.args.known.now c.place_of-place.result.number, refl);
+  lowered = (ap (with_row c.args.known.now c.place_of-number.result) c.row-row.ensures.value ∙ with_row-same c.args.known.now c.place_of-number.result, refl);
 }
 
 pub offer_end-requires-clause-cost : goal.offer_end-requires-clause-cost
@@ -26,23 +26,23 @@ pub loop-arrival-preserved : goal.loop-arrival-preserved
 loop-arrival-preserved c =
     let q = question c.args.asked.now in
     let small : c.loop-arrival.arrival < 8 = omega arith in
-    let fits : c.place_of-place.result.number * 9 + 9 ≤ length c.args.known.now = omega (arith, c.place_of-place.ensures.within, c.requires.each) in
+    let fits : c.place_of-number.result * 9 + 9 ≤ length c.args.known.now = omega (arith, c.place_of-number.ensures.within, c.requires.each) in
     record {
       order = c.in_ok-offer_end.ensures.order;
       whole = c.in_ok-offer_end.ensures.whole;
       lowered =
-          round_more (space_of q).ahead c.args.known.now (with_row c.args.known.now c.place_of-place.result.number c.loop-arrival.row.costs) (with_row c.args.known.now c.place_of-place.result.number c.offer_end.new.row.costs)
+          round_more (space_of q).ahead c.args.known.now (with_row c.args.known.now c.place_of-number.result c.loop-arrival.row.costs) (with_row c.args.known.now c.place_of-number.result c.offer_end.new.row.costs)
           (heap_items c.args.queue.now) (heap_items c.loop-arrival.queue) (heap_items c.offer_end.new.queue) (end_offer q c.args.p c.args.group) c.loop-arrival.arrival c.loop-arrival.invariant.lowered
           (offered_end q c.args.p c.args.group c.loop-arrival.arrival c.args.known.now c.loop-arrival.row.costs c.offer_end.new.row.costs (heap_items c.loop-arrival.queue) (heap_items c.offer_end.new.queue)
-          c.place_of-place.result.number c.place_of-place.result.ahead c.to_cost-cost.result c.requires.ends small (record { inside = c.requires.inside; arrival = omega arith; group = c.requires.group })
-          c.place_of-place.ensures.ahead c.place_of-place.ensures.number c.to_cost-cost.ensures fits c.loop-arrival.invariant.whole c.in_ok-offer_end.ensures.offered);
+          c.place_of-number.result c.ahead_at-ahead.result c.to_cost-cost.result c.requires.ends small (record { inside = c.requires.inside; arrival = omega arith; group = c.requires.group })
+          c.ahead_at-ahead.ensures.value c.place_of-number.ensures.value c.to_cost-cost.ensures fits c.loop-arrival.invariant.whole c.in_ok-offer_end.ensures.offered);
     }
 
 pub returns-clause-each : goal.returns-clause-each
 returns-clause-each c =
-    let fits : c.place_of-place.result.number * 9 + 9 ≤ length c.args.known.now = omega (arith, c.place_of-place.ensures.within, c.requires.each) in
+    let fits : c.place_of-number.result * 9 + 9 ≤ length c.args.known.now = omega (arith, c.place_of-number.ensures.within, c.requires.each) in
     on_ok_weaker c.put.result
-    (λ h. ap length h ∙ length-with_row c.args.known.now c.loop-arrival.row.costs c.place_of-place.result.number fits c.loop-arrival.invariant.whole ∙ c.requires.each)
+    (λ h. ap length h ∙ length-with_row c.args.known.now c.loop-arrival.row.costs c.place_of-number.result fits c.loop-arrival.invariant.whole ∙ c.requires.each)
     c.put.ensures
 
 pub returns-clause-lowered : goal.returns-clause-lowered
@@ -51,6 +51,6 @@ returns-clause-lowered c =
     let same : c.loop-arrival.arrival ≡ 8 = omega arith in
     on_ok_weaker c.put.result
     (λ h. subst (λ (t : List (Option ℕ)). AreLowered (space_of q).ahead c.args.known.now t (heap_items c.args.queue.now) (heap_items c.loop-arrival.queue) (offers_at_end q c.args.p c.args.group 8)) (sym h)
-    (subst (λ (n : ℕ). AreLowered (space_of q).ahead c.args.known.now (with_row c.args.known.now c.place_of-place.result.number c.loop-arrival.row.costs) (heap_items c.args.queue.now) (heap_items c.loop-arrival.queue) (offers_at_end q c.args.p c.args.group n)) same
+    (subst (λ (n : ℕ). AreLowered (space_of q).ahead c.args.known.now (with_row c.args.known.now c.place_of-number.result c.loop-arrival.row.costs) (heap_items c.args.queue.now) (heap_items c.loop-arrival.queue) (offers_at_end q c.args.p c.args.group n)) same
     c.loop-arrival.invariant.lowered))
     c.put.ensures
