@@ -1,9 +1,9 @@
 //! The drawing of a line graph, routed and straightened, and the one that was made last.
 //!
-//! Straightening lets lines run straight through their stations. Stations between two junctions are beads on a line:
-//! whole chains of segments are laid anew, corners of the network move with the chains that end at them, and nodes with
-//! their segments, as long as that makes the drawing lighter. What is made is legal, and weighs no more than what was
-//! there before.
+//! Straightening lets lines run straight through their stations. Stations between two junctions are no fixed points:
+//! whole chains of segments are laid anew, and their stations spread evenly along them; corners of the network move
+//! with the chains that end at them, and nodes with their segments, as long as that makes the drawing lighter. What is
+//! made is legal, and weighs no more than what was there before.
 //!
 //! The drawing that was made last is taken again where nothing changed on which it depends: the line graph, the cells,
 //! how nodes are spread, the finest grid and how many attempts may straighten it. What is taken again is what would be

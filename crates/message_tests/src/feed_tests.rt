@@ -16,6 +16,7 @@ fn what_is_no_folder_of_a_feed_is_told(rt: HostRuntime) -> Result<(), Fail> {
     fs::write(&rt, "other/stop.txt", "stop_id,stop_lat,stop_lon\n")?;
     make_folder(&rt, "odd")?;
     fs::write(&rt, "odd/readme", "")?;
+    fs::write(&rt, "odd/trips.txt", "trip_id,route_id\n")?;
     fs::write(&rt, "packed.zip", "PK\u{3}\u{4}")?;
     fs::write(&rt, "plain.txt", "")?;
     let cases = [
@@ -54,7 +55,7 @@ fn what_is_no_folder_of_a_feed_is_told(rt: HostRuntime) -> Result<(), Fail> {
         ),
         (
             "stations odd",
-            "octimap: there is no stops.txt in \"odd\"; there are \"readme\"\n",
+            "octimap: there is no stops.txt in \"odd\"; there are \"readme\", \"trips.txt\"\n",
         ),
     ];
     for (words, line) in cases {

@@ -1,7 +1,7 @@
 //! A folder of a feed in which a table is missing: what it seems to be, and what to do.
 
 use file_lookup::{Folder, folder_at, found_file, inner_with};
-use map_base::NoMemory;
+use map_base::{NoMemory, Text};
 use message_texts::{Found, Seeming, list_of, meant, path_seems, quoted};
 use std::alloc::Global;
 use std::rt::Files;
@@ -95,8 +95,9 @@ fn holds_packed(
 fn other(alloc: Global, feed: &str, name: &str, folder: &Folder) -> Result<String, NoMemory> {
     let shown = quoted(alloc, feed.as_bytes())?;
     let names = folder.names.as_slice();
-    if let Some(place) = meant(alloc, name, names)? {
-        if let Some(near) = names.get(place) {
+    let strange = strange_names(alloc, names)?;
+    if let Some(place) = meant(alloc, name, strange.as_slice())? {
+        if let Some(near) = strange.get(place) {
             let near = quoted(alloc, near.as_str().as_bytes())?;
             return Ok(format!(in alloc;
                 "octimap: there is no {name} in {shown} (did you mean {near}?)\n"
@@ -108,4 +109,54 @@ fn other(alloc: Global, feed: &str, name: &str, folder: &Folder) -> Result<Strin
     }
     let list = list_of(alloc, names, TOLD)?;
     Ok(format!(in alloc; "octimap: there is no {name} in {shown}; there are {list}\n")?)
+}
+
+/// The names that are no table of a feed: one of these may be a table whose name is misspelt.
+fn strange_names(alloc: Global, names: &[Text]) -> Result<Vec<Text>, NoMemory> {
+    let mut strange = Vec::new(alloc);
+    for name in names {
+        if !is_table(name.as_str()) {
+            strange.push(Text::of(alloc, name.as_str())?)?;
+        }
+    }
+    Ok(strange)
+}
+
+/// Whether a feed may have a table of this name, read or not.
+fn is_table(name: &str) -> bool {
+    match name {
+        "agency.txt"
+        | "stops.txt"
+        | "routes.txt"
+        | "trips.txt"
+        | "stop_times.txt"
+        | "calendar.txt"
+        | "calendar_dates.txt"
+        | "fare_attributes.txt"
+        | "fare_rules.txt"
+        | "timeframes.txt"
+        | "rider_categories.txt"
+        | "fare_media.txt"
+        | "fare_products.txt"
+        | "fare_leg_rules.txt"
+        | "fare_leg_join_rules.txt"
+        | "fare_transfer_rules.txt"
+        | "areas.txt"
+        | "stop_areas.txt"
+        | "networks.txt"
+        | "route_networks.txt"
+        | "shapes.txt"
+        | "frequencies.txt"
+        | "transfers.txt"
+        | "pathways.txt"
+        | "levels.txt"
+        | "location_groups.txt"
+        | "location_group_stops.txt"
+        | "booking_rules.txt"
+        | "translations.txt"
+        | "feed_info.txt"
+        | "attributions.txt"
+        | "locations.geojson" => true,
+        _ => false,
+    }
 }
