@@ -1,19 +1,15 @@
 -- A way without turns leads straight on: by the number of its direction.
-use Rattle.std.proofs.Common.{◌≡◌, refl, sym, ◌∙◌, ap, subst, ℕ, zero, suc, ◌≤◌, ◌⊎◌, inl, inr, Bool, true, false, cond, eqb, List, [], ◌∷◌, length, replicate, ℤ, pos, ◌+ℤ◌, ◌-ℤ◌, unsigned_abs, slice_get, Some, arith}
+use Rattle.std.proofs.Common.{◌≡◌, refl, sym, ◌∙◌, ap, ap₂, subst, ℕ, zero, suc, ◌≤◌, Bool, true, false, cond, eqb, ◌&&◌, max, List, [], ◌∷◌, length, replicate, ℤ, pos, ◌+ℤ◌, ◌-ℤ◌, unsigned_abs, slice_get, Some, arith}
 use Rattle.std.specs.Prelude.{int_lt}
 use Rattle.std.proofs.lemmas.Int.{ints}
-use Rattle.std.proofs.lemmas.Bool.{cases_eq, eq-eqb, ne_eqb}
+use Rattle.std.proofs.lemmas.Bool.{eq-eqb, ne_eqb}
 use Rattle.octi_grid.specs.declared.dir.Dir.{Dir}
 use Rattle.octi_grid.specs.declared.dir.Dir.TheVariants as dir
 use Rattle.octi_grid.specs.declared.point.GridPoint.{GridPoint}
 use Rattle.octi_grid.specs.Costs.{turn_between}
 use Rattle.octi_grid.specs.Ways.{after, number_of}
 use Rattle.octi_grid.specs.Walks.{last_of}
-use Rattle.octi_grid.proofs.CostLemmas.{turn_none}
 use Rattle.octi_grid.proofs.WayLemmas.{after-replicate}
-use Rattle.walk_search.specs.Moves.{direction}
-use Rattle.walk_search.proofs.Turning.{direction-number_of}
-use Rattle.walk_search.proofs.TurnsDue.{turn_nowhere}
 use Rattle.drawing_weights.specs.Weights.{turns_of}
 use Rattle.drawing_weights.proofs.LeastWeights.{all_one_way}
 use Rattle.drawing_search.specs.Least.{diagonal, straight_way, turns_at_least}
@@ -77,40 +73,30 @@ last_run : (n : ℕ) (d : Dir) → last_of (replicate (suc n) d) ≡ Some d
 last_run zero d = refl
 last_run (suc n) d = last_run n d
 
--- a walk with a single turn of 45 degrees comes in another direction than it leaves by
-turned_once : (d : Dir) (ds : List Dir) (e : Dir) → turns_of (d ∷ ds) ≡ 1 → last_of (d ∷ ds) ≡ Some e → turn_between d e ≡ 1
-turned_once d [] e one last = absurd (omega (arith, one))
-turned_once d (f ∷ ds) e one last = of_turn (cases_eq (turn_between d f) 0)
-  where
-    of_turn : (turn_between d f ≡ 0) ⊎ (turn_between d f ≡ 0 → ⊥) → turn_between d e ≡ 1
-    of_turn (inl none) =
-        let rest : turns_of (f ∷ ds) ≡ 1 = omega (arith, one, none) in
-        ap (λ (g : Dir). turn_between g e) (turn_nowhere d f none) ∙ turned_once f ds e rest last
-    of_turn (inr some) =
-        let rest : turns_of (f ∷ ds) ≡ 0 = omega (arith, one, some) in
-        let same : Some f ≡ Some e = sym (ap last_of (all_one_way f ds rest) ∙ last_run (length ds) f) ∙ last in
-        let here : f ≡ e = cc in
-        let turn : turn_between d f ≡ 1 = omega (arith, one, rest) in
-        sym (ap (turn_between d) here) ∙ turn
-
 -- a walk turns at least as much as is said of its first direction, its last one, and the straight way between its ends
 pub turns_no_less : (p : GridPoint) (d : Dir) (ds : List Dir) (e : Dir) → last_of (d ∷ ds) ≡ Some e → turns_at_least d e (straight_way p (after p (d ∷ ds))) ≤ turns_of (d ∷ ds)
-turns_no_less p d ds e last = of_last (cases_eq (number_of d) (number_of e))
+turns_no_less p d ds e last = by_turns (turns_of (d ∷ ds)) refl
   where
     way : ℕ
     way = straight_way p (after p (d ∷ ds))
 
-    of_last : (number_of d ≡ number_of e) ⊎ (number_of d ≡ number_of e → ⊥) → turns_at_least d e way ≤ turns_of (d ∷ ds)
-    of_last (inr apart) = subst (λ b. cond b (cond (eqb (number_of d) way) 0 2) (turn_between d e) ≤ turns_of (d ∷ ds)) (sym (ne_eqb (number_of d) (number_of e) apart)) (turns_enough d ds e last)
-    of_last (inl same) = subst (λ b. cond b (cond (eqb (number_of d) way) 0 2) (turn_between d e) ≤ turns_of (d ∷ ds)) (sym (eq-eqb (number_of d) (number_of e) same)) (of_way (cases_eq (number_of d) way))
+    enough : turn_between d e ≤ turns_of (d ∷ ds)
+    enough = turns_enough d ds e last
+
+    by_turns : (t : ℕ) → turns_of (d ∷ ds) ≡ t → turns_at_least d e way ≤ turns_of (d ∷ ds)
+    by_turns zero none_made =
+        let one = all_one_way d ds none_made in
+        let on : way ≡ number_of d = ap (λ (v : List Dir). straight_way p (after p v)) one ∙ run_straight p (length ds) d in
+        let same : Some d ≡ Some e = sym (ap last_of one ∙ last_run (length ds) d) ∙ last in
+        let here : d ≡ e = cc in
+        let first : eqb (number_of d) way ≡ true = eq-eqb (number_of d) way (sym on) in
+        let then : eqb (number_of e) way ≡ true = eq-eqb (number_of e) way (ap number_of (sym here) ∙ sym on) in
+        omega (arith, enough, ap₂ (λ a b. cond (a && b) (turn_between d e) (max 1 (turn_between d e))) first then)
+    by_turns (suc t) some_made = omega (arith, enough, some_made, either (eqb (number_of d) way && eqb (number_of e) way))
       where
-        of_way : (number_of d ≡ way) ⊎ (number_of d ≡ way → ⊥) → cond (eqb (number_of d) way) 0 2 ≤ turns_of (d ∷ ds)
-        of_way (inl on) = subst (λ b. cond b 0 2 ≤ turns_of (d ∷ ds)) (sym (eq-eqb (number_of d) way on)) (omega arith)
-        of_way (inr off) =
-            let some : turns_of (d ∷ ds) ≡ 0 → ⊥ = λ none. off (sym (ap (λ (v : List Dir). straight_way p (after p v)) (all_one_way d ds none) ∙ run_straight p (length ds) d)) in
-            let one_way : d ≡ e = sym (direction-number_of d) ∙ ap direction same ∙ direction-number_of e in
-            let more : turns_of (d ∷ ds) ≡ 1 → ⊥ = λ one. let turned : turn_between d e ≡ 1 = turned_once d ds e one last in absurd (omega (arith, turned, ap (turn_between d) (sym one_way), turn_none d)) in
-            subst (λ b. cond b 0 2 ≤ turns_of (d ∷ ds)) (sym (ne_eqb (number_of d) way off)) (omega (arith, some, more))
+        either : (b : Bool) → cond b (turn_between d e) (max 1 (turn_between d e)) ≤ turns_of (d ∷ ds)
+        either true = enough
+        either false = omega (arith, enough, some_made)
 
 pub walk_turns : (p : GridPoint) (ds : List Dir) (d e : Dir) → slice_get ds 0 ≡ Some d → last_of ds ≡ Some e → turns_at_least d e (straight_way p (after p ds)) ≤ turns_of ds
 walk_turns p [] d e first last = cc

@@ -1,5 +1,5 @@
 -- What a run adds at least, by the ports that its ends may have.
-use Rattle.std.specs.Prelude.{ℕ, ◌+◌, ◌*◌, ◌==◌, ◌||◌, nat_lt, min, Bool, List, [], length, map, filter, fold, if◌then◌else◌, slice_index_or, ◌-ℤ◌, int_lt, unsigned_abs}
+use Rattle.std.specs.Prelude.{ℕ, ◌+◌, ◌*◌, ◌==◌, ◌||◌, ◌&&◌, nat_lt, max, min, Bool, List, [], length, map, filter, fold, if◌then◌else◌, slice_index_or, ◌-ℤ◌, int_lt, unsigned_abs}
 use Rattle.std.specs.Int.{bit_at}
 use Rattle.std.specs.List.{flat_map}
 use Rattle.map_base.specs.declared.ids.NodeId.{NodeId}
@@ -39,11 +39,9 @@ straight_way a b =
     else 8
 
 -- how many turns of 45 degrees a walk makes at least that leaves by one direction, comes in another, and ends where a
--- straight way in the direction of a number leads, or none: where both directions are one and it is not straight, one away
--- from it and one back
+-- straight way in the direction of a number leads, or none
 abbrev pub turns_at_least : Dir → Dir → ℕ → ℕ
-turns_at_least first last k =
-    if number_of first == number_of last then (if number_of first == k then 0 else 2) else turn_between first last
+turns_at_least first last k = if number_of first == k && number_of last == k then turn_between first last else max 1 (turn_between first last)
 
 -- ---- runs
 

@@ -258,10 +258,12 @@ fn turns_at_least(first: Dir, last: Dir, straight: usize) -> u64
     ensures value { result ≡ turns_at_least first last straight }
     ensures small { result ≤ 4 }
 {
-    if first.index() == last.index() {
-        return if usize::from(first.index()) == straight { 0 } else { 2 };
+    let between = u64::from(turn_cost(first, last));
+    if usize::from(first.index()) == straight && usize::from(last.index()) == straight {
+        between
+    } else {
+        between.max(1)
     }
-    u64::from(turn_cost(first, last))
 }
 
 /// The number of the direction in which a straight way leads from one point to another; 8 where none does.

@@ -1,5 +1,6 @@
 pub mod Paths
 pub mod Tables
+pub mod Queues
 pub mod RowTables
 pub mod RowLowering
 pub mod Searches

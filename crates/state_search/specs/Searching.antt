@@ -1,5 +1,5 @@
 -- A search for least costs to goals: what is known, what waits, and what is left to be followed.
-use Rattle.std.specs.Prelude.{◌≡◌, ℕ, ◌+◌, ◌*◌, ◌<◌, ◌≤◌, ◌⊎◌, List, [], ◌∷◌, Option, Some, None, length, min, Contains, IsPermutation, slice_index_or, slice_set, sum_by}
+use Rattle.std.specs.Prelude.{◌≡◌, ℕ, ◌+◌, ◌*◌, ◌<◌, ◌≤◌, ◌⊎◌, List, [], ◌∷◌, ◌++◌, map, Option, Some, None, length, min, Contains, IsPermutation, slice_index_or, slice_set, sum_by}
 use Rattle.std.specs.declared.cmp.Ordering.{Ordering}
 use Rattle.std.specs.declared.cmp.Reverse.{Reverse}
 use Rattle.std.specs.Ordering.{nat_cmp, ordering_then}
@@ -22,13 +22,17 @@ entry k s = record { 0 = (k, s) }
 abbrev pub Waits : List (Reverse (ℕ × ℕ)) → ℕ → ℕ → Type 0
 Waits queue s k = Contains queue (entry k s)
 
--- the order of the queue: the least estimate first, then the least state
+-- the order of entries: the least estimate first, then the least state
 abbrev pub queue_cmp : Reverse (ℕ × ℕ) → Reverse (ℕ × ℕ) → Ordering
 queue_cmp x y = ordering_then (nat_cmp y.0.0 x.0.0) (nat_cmp y.0.1 x.0.1)
 
--- an estimate with its state comes no later than another: it is less, or as much with a state that is not greater
-abbrev pub IsNoLater : ℕ × ℕ → ℕ → ℕ → Type 0
-IsNoLater w s k = (w.0 < k) ⊎ ((w.0 ≡ k) × (w.1 ≤ s))
+-- all that waits: states at a level, and entries apart from them
+abbrev pub all_waiting : ℕ → List ℕ → List (Reverse (ℕ × ℕ)) → List (Reverse (ℕ × ℕ))
+all_waiting level here apart = map (entry level) here ++ apart
+
+-- a state waits with an estimate below a level
+abbrev pub HasBelow : ℕ → List (Reverse (ℕ × ℕ)) → Type 0
+HasBelow level queue = (s : ℕ) × (k : ℕ) × Waits queue s k × (k < level)
 
 -- there is a limit, and an estimate is above it
 abbrev pub IsBeyond : Option ℕ → ℕ → Type 0

@@ -8,5 +8,5 @@ mod queue;
 mod row;
 
 pub use known::Known;
-pub use queue::{Queue, lower, lower_in, next};
+pub use queue::{Queue, lower, lower_in};
 pub use row::{Place, Row};

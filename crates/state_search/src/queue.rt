@@ -1,32 +1,117 @@
 //! States that wait with an estimate, the least estimate first.
 
-ghost use Rattle.std.specs.Prelude.{◌≡◌, ℕ, ◌+◌, ◌<◌, ◌≤◌, ◌^◌, ◌↔◌, IsTrue, IfSome, IfNone, OnOk, IsPermutation, length, ◌∷◌, Contains};
-ghost use Rattle.std.specs.BinaryHeap.{IsHeap, heap_items, heap_len};
+ghost use Rattle.std.specs.Prelude.{◌≡◌, ℕ, ◌+◌, ◌<◌, ◌≤◌, ◌^◌, ◌⊎◌, ◌↔◌, true, false, IsTrue, IfSome, IfNone, OnOk, IsPermutation, [], length, ◌∷◌};
+ghost use Rattle.std.specs.BinaryHeap.{IsHeap, IsHeap-prop, heap_items};
 ghost use Rattle.least_path.specs.Orders.{AtMost};
-ghost use Rattle.state_search.specs.Searching.{IsBeyond, IsLowered, IsNoLater, Waits, entry, queue_cmp};
+ghost use Rattle.state_search.specs.Searching.{HasBelow, IsBeyond, IsLowered, Waits, entry, queue_cmp};
 ghost use Rattle.state_search.specs.Rows.{IsRowLowered};
 
 use crate::known::Known;
 use crate::row::{Place, Row};
 use map_base::NoMemory;
+use std::alloc::Global;
 use std::cmp::Reverse;
 use std::collections::BinaryHeap;
+use std::marker::Model;
 
-/// Estimates of whole walks with the numbers of states on them, the least estimate first.
-pub type Queue = BinaryHeap<Reverse<(u64, u32)>>;
+/// States that wait, each with an estimate of a whole walk on which it lies, seen as the list of them. Those of one
+/// estimate, the level, are kept apart from the heap of the others: where a bound is tight most of what is met waits with
+/// the estimate that was taken last.
+#[derive(Drop)]
+pub struct Queue {
+    level: u64,
+    here: Vec<u32>,
+    apart: BinaryHeap<Reverse<(u64, u32)>>,
+    ghost order: { IsHeap queue_cmp (heap_items apart) } by { IsHeap-prop queue_cmp (heap_items apart) },
+}
 
-/// Takes the least estimate that waits, with its state, among equals the least one, where it is within a limit; none where
-/// nothing waits or all that waits is beyond the limit.
-pub fn next(queue: &mut Queue, limit: Option<u64>) -> Option<(u64, u32)>
-    requires order { IsHeap queue_cmp (heap_items queue.old) }
-    ensures order { IsHeap queue_cmp (heap_items queue.new) }
-    ensures taken { IfSome result (λ w. IsPermutation (heap_items queue.old) (entry w.0 w.1 ∷ heap_items queue.new)) }
-    ensures least { IfSome result (λ w. (s k : ℕ) → Waits (heap_items queue.old) s k → IsNoLater w s k) }
-    ensures within { IfSome result (λ w. IsBeyond limit w.0 → ⊥) }
-    ensures shorter { IfSome result (λ _. heap_len queue.new + 1 ≡ heap_len queue.old) }
-    ensures none { IfNone result ((s k : ℕ) → Waits (heap_items queue.old) s k → IsBeyond limit k) }
+impl Model for Queue {
+    ghost use Rattle.std.specs.Prelude.{List, ℕ};
+    ghost use Rattle.std.specs.declared.cmp.Reverse.{Reverse};
+    ghost use Rattle.std.specs.BinaryHeap.{heap_items};
+    ghost use Rattle.state_search.specs.Searching.{all_waiting};
+
+    ghost Value = { List (Reverse (ℕ × ℕ)) };
+
+    ghost view = { λ q. all_waiting q.level q.here.items (heap_items q.apart) };
+}
+
+impl Queue {
+    /// Nothing waits.
+    pub fn new(alloc: Global) -> Queue
+        ensures { result ≡ [] }
+    {
+        Queue {
+            level: 0,
+            here: Vec::new(alloc),
+            apart: BinaryHeap::new(alloc),
+        }
+    }
+
+    /// Takes a least estimate that waits, with its state, where it is within a limit; none where nothing waits or all that
+    /// waits is beyond the limit.
+    pub fn next(&mut self, limit: Option<u64>) -> Option<(u64, u32)>
+        ensures taken { IfSome result (λ w. IsPermutation self.old (entry w.0 w.1 ∷ self.new)) }
+        ensures least { IfSome result (λ w. (s k : ℕ) → Waits self.old s k → w.0 ≤ k) }
+        ensures within { IfSome result (λ w. IsBeyond limit w.0 → ⊥) }
+        ensures none { IfNone result ((s k : ℕ) → Waits self.old s k → IsBeyond limit k) }
+    {
+        if is_least(self.level, &self.here, &self.apart) {
+            if is_beyond(limit, self.level) {
+                return None;
+            }
+            let Some(at) = self.here.pop() else {
+                return None;
+            };
+            return Some((self.level, at));
+        }
+        let Some(least) = take_least(&mut self.apart, limit) else {
+            return None;
+        };
+        if self.here.is_empty() {
+            self.level = least.0;
+        }
+        Some(least)
+    }
+
+    /// Lets a state wait with an estimate.
+    pub fn push(&mut self, estimate: u64, at: u32) -> Result<(), NoMemory>
+        ensures { OnOk result (IsPermutation (entry estimate at ∷ self.old) self.new) }
+    {
+        if estimate == self.level {
+            self.here.push(at)?;
+        } else {
+            self.apart.push(Reverse((estimate, at)))?;
+        }
+        Ok(())
+    }
+}
+
+/// Whether some state waits at a level, and none apart from it with a lesser estimate.
+fn is_least(level: u64, here: &[u32], apart: &BinaryHeap<Reverse<(u64, u32)>>) -> bool
+    requires order { IsHeap queue_cmp (heap_items apart.now) }
+    ensures yes { result ≡ true → (0 < length here.now) × ((s k : ℕ) → Waits (heap_items apart.now) s k → level ≤ k) }
+    ensures no { result ≡ false → (here.now ≡ []) ⊎ HasBelow level (heap_items apart.now) }
 {
-    let Reverse(least) = queue.pop()?;
+    if here.is_empty() {
+        return false;
+    }
+    match apart.peek() {
+        None => true,
+        Some(least) => level <= least.0.0,
+    }
+}
+
+/// Takes the least entry of a heap, if it is within a limit.
+fn take_least(apart: &mut BinaryHeap<Reverse<(u64, u32)>>, limit: Option<u64>) -> Option<(u64, u32)>
+    requires order { IsHeap queue_cmp (heap_items apart.old) }
+    ensures order { IsHeap queue_cmp (heap_items apart.new) }
+    ensures taken { IfSome result (λ w. IsPermutation (heap_items apart.old) (entry w.0 w.1 ∷ heap_items apart.new)) }
+    ensures least { IfSome result (λ w. (s k : ℕ) → Waits (heap_items apart.old) s k → w.0 ≤ k) }
+    ensures within { IfSome result (λ w. IsBeyond limit w.0 → ⊥) }
+    ensures none { IfNone result ((s k : ℕ) → Waits (heap_items apart.old) s k → IsBeyond limit k) }
+{
+    let Reverse(least) = apart.pop()?;
     if is_beyond(limit, least.0) {
         return None;
     }
@@ -55,16 +140,13 @@ pub fn lower(
     requires in_range { at < length known.old }
     requires cost { cost < 2 ^ 40 }
     requires ahead { ahead < 2 ^ 40 }
-    requires order { IsHeap queue_cmp (heap_items queue.old) }
-    ensures order { OnOk result (IsHeap queue_cmp (heap_items queue.new)) }
-    ensures lowered { OnOk result (IsLowered ahead known.old known.new (heap_items queue.old) (heap_items queue.new) at cost) }
+    ensures lowered { OnOk result (IsLowered ahead known.old known.new queue.old queue.new at cost) }
 {
     if is_as_low(known.of(at), cost) {
         return Ok(());
     }
     known.note(at, cost)?;
-    queue.push(Reverse((cost + ahead, at)))?;
-    Ok(())
+    queue.push(cost + ahead, at)
 }
 
 /// The same for a spot, by the row of its place and the number of that place.
@@ -80,18 +162,15 @@ pub fn lower_in(
     requires arrival { arrival < 9 }
     requires cost { cost < 2 ^ 40 }
     requires ahead { place.ahead < 2 ^ 40 }
-    requires order { IsHeap queue_cmp (heap_items queue.old) }
-    ensures order { OnOk result (IsHeap queue_cmp (heap_items queue.new)) }
     ensures whole { OnOk result (length row.new.costs ≡ 9) }
-    ensures lowered { OnOk result (IsRowLowered place.number place.ahead row.old.costs row.new.costs (heap_items queue.old) (heap_items queue.new) arrival cost) }
+    ensures lowered { OnOk result (IsRowLowered place.number place.ahead row.old.costs row.new.costs queue.old queue.new arrival cost) }
 {
     if is_as_low(row.of(arrival), cost) {
         return Ok(());
     }
     row.note(arrival, cost);
     let number = place.number * 9 + u32::from(arrival);
-    queue.push(Reverse((cost + place.ahead, number)))?;
-    Ok(())
+    queue.push(cost + place.ahead, number)
 }
 
 /// Whether a known cost is at most another.

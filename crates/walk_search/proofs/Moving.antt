@@ -1,6 +1,6 @@
 -- Moves from spot to spot are steps that a search may rest on.
-use Rattle.std.proofs.Common.{◌≡◌, refl, sym, ◌∙◌, ap, subst, ℕ, ◌+◌, ◌<◌, ◌≤◌, ◌⊎◌, inl, inr, Bool, true, false, cond, eqb, ltb, ◌&&◌, ◌||◌, length, Option, Some, None, arith}
-use Rattle.std.proofs.lemmas.Bool.{and_parts, ltb-true, ne_eqb}
+use Rattle.std.proofs.Common.{◌≡◌, refl, sym, ◌∙◌, ap, ap₂, subst, ℕ, ◌+◌, ◌<◌, ◌≤◌, ◌⊎◌, inl, inr, Bool, true, false, cond, eqb, ltb, ◌&&◌, ◌||◌, length, Option, Some, None, arith}
+use Rattle.std.proofs.lemmas.Bool.{and_parts, cases_eq, eq-eqb, ltb-true, ne_eqb}
 use Rattle.least_path.proofs.Chosen.{all-at}
 use Rattle.octi_grid.specs.declared.dir.Dir.{Dir}
 use Rattle.octi_grid.specs.Ways.{are_one, reverse_of, step_from}
@@ -15,12 +15,12 @@ use Rattle.walk_search.specs.Seats.{seat_cost}
 use Rattle.walk_search.specs.Routes.{allows}
 use Rattle.walk_search.specs.Reaching.{reach_of}
 use Rattle.walk_search.specs.Spots.{IsSpot, number_of_spot, spots_of, spot_of}
-use Rattle.walk_search.specs.Moves.{Question, IsQuestion, IsMove, ahead_at, chosen_seat, direction, end_cost, ends_of, group_of, is_end, is_open, is_other_end, is_passable, is_start, may_end, may_leave, move_of, space_of, spot_ahead, start_at, starts_of, stepped, turn_from, turns_due}
+use Rattle.walk_search.specs.Moves.{Question, IsQuestion, IsMove, ahead_at, chosen_seat, direction, end_cost, ends_of, group_of, is_end, is_open, is_other_end, is_passable, is_start, may_end, may_leave, move_of, seat_ahead, space_of, spot_ahead, start_at, starts_of, step_ahead, stepped, turn_from, turns_due}
 use Rattle.walk_search.proofs.Numbered.{number_below_spots, spot_of-number, spot_of-is}
 use Rattle.walk_search.proofs.LeastReach.{reach_seat, reach_step}
 use Rattle.grid_board.proofs.Marks.{one_true}
 use Rattle.walk_search.proofs.Turning.{step_back, step_cost_from, step_there}
-use Rattle.walk_search.proofs.TurnsDue.{due_farther, due_first, due_once}
+use Rattle.walk_search.proofs.TurnsDue.{due, due_farther, due_first, due_once, turns_to}
 use Rattle.walk_search.proofs.SeatFacts.{all_index, among_stands, seats_cheap, seats_few, seats_inside}
 
 pub some_same : {X : Type 0} (x y : X) → Some x ≡ Some y → x ≡ y
@@ -114,55 +114,85 @@ turn_from_small a d = of_test (eqb a 8)
 
 -- ---- what it costs at least to come to a spot rises by no more than a move costs
 
-pub seat_ahead : (q : Question) (p : GridPoint) → ahead_at q p 8 ≤ seat_cost q.from.at p + 1
-seat_ahead q p = of_test (are_one q.from.at p)
+seat_first : (q : Question) (p : GridPoint) → ahead_at q p 8 ≤ seat_cost q.from.at p + 1
+unfolding ahead_at seat_ahead
+seat_first q p = of_test (are_one q.from.at p)
   where
-    of_test : (t : Bool) → reach_of q.from.at p + cond t 0 1 ≤ seat_cost q.from.at p + 1
+    of_test : (t : Bool) → cond t (reach_of q.from.at p) (reach_of q.from.at p + 1) ≤ seat_cost q.from.at p + 1
     of_test true = omega (arith, reach_seat q.from.at p)
     of_test false = omega (arith, reach_seat q.from.at p)
 
 -- by an allowed port from a seat no turn is due but where that is not the home
 start_due : (q : Question) (p : GridPoint) (l : ℕ) → l < 8 → allows q.from.ports (Some (direction l)) ≡ true →
-    turns_due q (step_from p (direction l)) (direction l) ≤ cond (are_one q.from.at p) 0 1
+    reach_of q.from.at p + due q (step_from p (direction l)) (direction l) ≤ seat_ahead q p
+unfolding seat_ahead
 start_due q p l below e = of_test (are_one q.from.at p) refl
   where
-    of_test : (t : Bool) → are_one q.from.at p ≡ t → turns_due q (step_from p (direction l)) (direction l) ≤ cond t 0 1
+    of_test : (t : Bool) → are_one q.from.at p ≡ t → reach_of q.from.at p + due q (step_from p (direction l)) (direction l) ≤ cond t (reach_of q.from.at p) (reach_of q.from.at p + 1)
     of_test true h =
-        subst (λ (r : GridPoint). turns_due q (step_from r (direction l)) (direction l) ≤ 0) (one_true q.from.at p h) (let none = due_first q l below e in omega (arith, none))
-    of_test false h = due_once q (step_from p (direction l)) l below e
+        let here : due q (step_from p (direction l)) (direction l) ≡ 0 =
+        ap (λ (r : GridPoint). due q (step_from r (direction l)) (direction l)) (sym (one_true q.from.at p h)) ∙ due_first q l below e in
+        omega (arith, here)
+    of_test false h = let once = due_once q (step_from p (direction l)) l below e in omega (arith, once)
 
-pub step_ahead : (q : Question) (s : Spot) (l : ℕ) (landing : Spot) (c : ℕ) → IsStepped q s l landing c → ahead_at q (step_from s.at (direction l)) l ≤ ahead_at q s.at s.arrival + c
-step_ahead q s l landing c m =
-    subst (λ (k : ℕ). k ≤ ahead_at q s.at s.arrival + c) (sym after) (of_start (eqb s.arrival 8) refl)
+-- what a step is due to, once it was made
+stepped_ahead : (q : Question) (p : GridPoint) (l : ℕ) → l < 8 → ahead_at q (step_from p (direction l)) l ≡ reach_of q.from.at p + (step_cost (direction l) + due q (step_from p (direction l)) (direction l))
+unfolding ahead_at step_ahead
+stepped_ahead q p l below =
+    let d : Dir = direction l in
+    let no_start : l ≡ 8 → ⊥ = λ e. absurd (omega (arith, below, e)) in
+    ap (λ t. cond t (seat_ahead q (step_from p d)) (reach_of q.from.at (step_from (step_from p d) (reverse_of d)) + (step_cost d + turns_due q (step_from p d) l))) (ne_eqb l 8 no_start)
+    ∙ ap₂ (λ (r : GridPoint) (k : ℕ). reach_of q.from.at r + (step_cost d + k)) (step_back p d) (turns_to q (step_from p d) l below)
+
+-- and how far a point is from where the step to it came from
+arrived_ahead : (q : Question) (p : GridPoint) (l : ℕ) → l < 8 → reach_of q.from.at p + due q p (direction l) ≤ ahead_at q p l
+unfolding ahead_at step_ahead
+arrived_ahead q p l below =
+    let a : Dir = direction l in
+    let no_start : l ≡ 8 → ⊥ = λ e. absurd (omega (arith, below, e)) in
+    let back : GridPoint = step_from p (reverse_of a) in
+    let reached : reach_of q.from.at p ≤ reach_of q.from.at back + step_cost a =
+    subst (λ (r : GridPoint). reach_of q.from.at r ≤ reach_of q.from.at back + step_cost a) (step_there p a) (reach_step q.from.at back a) in
+    let turns : turns_due q p l ≡ due q p a = turns_to q p l below in
+    subst (λ b. reach_of q.from.at p + due q p a ≤ cond b (seat_ahead q p) (reach_of q.from.at back + (step_cost a + turns_due q p l))) (sym (ne_eqb l 8 no_start)) (omega (arith, reached, turns))
+
+at_start : (q : Question) (p : GridPoint) (n : ℕ) → eqb n 8 ≡ true → ahead_at q p n ≡ seat_ahead q p
+unfolding ahead_at
+at_start q p n h = ap (λ t. cond t (seat_ahead q p) (step_ahead q p n)) h
+
+step_rises : (q : Question) (s : Spot) (l : ℕ) (landing : Spot) (c : ℕ) → s.arrival < 9 → IsStepped q s l landing c → ahead_at q (step_from s.at (direction l)) l ≤ ahead_at q s.at s.arrival + c
+step_rises q s l landing c small m = of_start (eqb s.arrival 8) refl
   where
     d : Dir
     d = direction l
 
-    after : ahead_at q (step_from s.at d) l ≡ reach_of q.from.at s.at + (step_cost d + turns_due q (step_from s.at d) d)
-    after =
-        let no_start : l ≡ 8 → ⊥ = λ e. let below : l < 8 = m.below in omega arith in
-        ap (λ t. cond t (reach_of q.from.at (step_from s.at d) + cond (are_one q.from.at (step_from s.at d)) 0 1) (reach_of q.from.at (step_from (step_from s.at d) (reverse_of d)) + (step_cost d + turns_due q (step_from s.at d) d))) (ne_eqb l 8 no_start)
-        ∙ ap (λ (p : GridPoint). reach_of q.from.at p + (step_cost d + turns_due q (step_from s.at d) d)) (step_back s.at d)
+    after : ahead_at q (step_from s.at d) l ≡ reach_of q.from.at s.at + (step_cost d + due q (step_from s.at d) d)
+    after = stepped_ahead q s.at l m.below
 
-    of_start : (t : Bool) → eqb s.arrival 8 ≡ t → reach_of q.from.at s.at + (step_cost d + turns_due q (step_from s.at d) d) ≤ ahead_at q s.at s.arrival + c
+    cost : c ≡ step_cost d + turn_from s.arrival d
+    cost = m.cost
+
+    of_start : (t : Bool) → eqb s.arrival 8 ≡ t → ahead_at q (step_from s.at d) l ≤ ahead_at q s.at s.arrival + c
     of_start true e =
-        let here : ahead_at q s.at s.arrival ≡ reach_of q.from.at s.at + cond (are_one q.from.at s.at) 0 1 =
-        ap (λ t. cond t (reach_of q.from.at s.at + cond (are_one q.from.at s.at) 0 1) (reach_of q.from.at (step_from s.at (reverse_of (direction s.arrival))) + (step_cost (direction s.arrival) + turns_due q s.at (direction s.arrival)))) e in
+        let here : ahead_at q s.at s.arrival ≡ seat_ahead q s.at = at_start q s.at s.arrival e in
         let leaves : (is_start q s.at s.group && allows q.from.ports (Some d)) ≡ true =
         sym (ap (λ t. cond t (is_start q s.at s.group && allows q.from.ports (Some d)) (is_passable q.board s.at)) e) ∙ m.leaves in
-        let due = start_due q s.at l m.below (and_parts (is_start q s.at s.group) (allows q.from.ports (Some d)) leaves).1 in
-        let cost : c ≡ step_cost d + turn_from s.arrival d = m.cost in
-        omega (arith, here, due, cost)
+        let due_here = start_due q s.at l m.below (and_parts (is_start q s.at s.group) (allows q.from.ports (Some d)) leaves).1 in
+        omega (arith, after, here, due_here, cost)
     of_start false e =
         let a : Dir = direction s.arrival in
-        let here : ahead_at q s.at s.arrival ≡ reach_of q.from.at (step_from s.at (reverse_of a)) + (step_cost a + turns_due q s.at a) =
-        ap (λ t. cond t (reach_of q.from.at s.at + cond (are_one q.from.at s.at) 0 1) (reach_of q.from.at (step_from s.at (reverse_of a)) + (step_cost a + turns_due q s.at a))) e in
-        let reached : reach_of q.from.at s.at ≤ reach_of q.from.at (step_from s.at (reverse_of a)) + step_cost a =
-        subst (λ (p : GridPoint). reach_of q.from.at p ≤ reach_of q.from.at (step_from s.at (reverse_of a)) + step_cost a) (step_there s.at a) (reach_step q.from.at (step_from s.at (reverse_of a)) a) in
-        let due = due_farther q s.at a d in
+        let below : s.arrival < 8 = of_other s.arrival small e in
+        let here : reach_of q.from.at s.at + due q s.at a ≤ ahead_at q s.at s.arrival = arrived_ahead q s.at s.arrival below in
+        let farther = due_farther q s.at a d in
         let turn : turn_from s.arrival d ≡ turn_between a d = ap (λ t. cond t 0 (turn_between a d)) e in
-        let cost : c ≡ step_cost d + turn_from s.arrival d = m.cost in
-        omega (arith, here, reached, due, turn, cost)
+        omega (arith, after, here, farther, turn, cost)
+      where
+        of_other : (n : ℕ) → n < 9 → eqb n 8 ≡ false → n < 8
+        of_other n h k = of_case (cases_eq n 8)
+          where
+            of_case : (n ≡ 8) ⊎ (n ≡ 8 → ⊥) → n < 8
+            of_case (inl same) = let clash : true ≡ false = sym (eq-eqb n 8 same) ∙ k in cc
+            of_case (inr other) = omega (arith, h, other)
 
 -- what a move by numbers is
 pub record IsMoved (q : Question) (a l c : ℕ) (landing : Spot) : Type 0 where
@@ -180,7 +210,7 @@ moved q h a l c landing below goes = of_case (move_cases q (spot_of q.board.boun
       cost_from = omega (arith, m.cost);
       cost_to = omega (arith, m.cost, start_cheap q l m.below);
       rises =
-          let at_seat : ahead_at q (start_at q l) 8 ≤ seat_cost q.from.at (start_at q l) + 1 = seat_ahead q (start_at q l) in
+          let at_seat : ahead_at q (start_at q l) 8 ≤ seat_cost q.from.at (start_at q l) + 1 = seat_first q (start_at q l) in
           let cost : c ≡ seat_cost q.from.at (start_at q l) + 1 = m.cost in
           subst (λ (s : Spot). ahead_at q s.at s.arrival ≤ spot_ahead q (spot_of q.board.bounds a) + c) (sym m.lands) (omega (arith, at_seat, cost));
     }
@@ -194,7 +224,7 @@ moved q h a l c landing below goes = of_case (move_cases q (spot_of q.board.boun
           cost_to = omega (arith, m.cost, step_cost_small (direction l), turn_from_small s.arrival (direction l));
           rises =
               subst (λ (o : Option Spot). ahead_at q landing.at landing.arrival ≤ spot_ahead q o + c) (sym e)
-              (subst (λ (x : Spot). ahead_at q x.at x.arrival ≤ ahead_at q s.at s.arrival + c) (sym m.lands) (step_ahead q s l landing c m));
+              (subst (λ (x : Spot). ahead_at q x.at x.arrival ≤ ahead_at q s.at s.arrival + c) (sym m.lands) (step_rises q s l landing c of.spot.arrival m));
         }
 
     of_case : ((spot_of q.board.bounds a ≡ None) × IsChosen q l landing c) ⊎ ((s : Spot) × (spot_of q.board.bounds a ≡ Some s) × IsStepped q s l landing c) → IsMoved q a l c landing

@@ -1,5 +1,5 @@
 -- The turns that are due on the way to a point rise by no more than the turn that is made there.
-use Rattle.std.proofs.Common.{◌≡◌, refl, sym, ◌∙◌, ap, ap₂, subst, ℕ, zero, suc, ◌+◌, ◌-◌, ◌%◌, ◌<◌, ◌≤◌, ◌⊎◌, inl, inr, Bool, true, false, cond, ◌&&◌, min, max, ℤ, pos, negsuc, ◌+ℤ◌, ◌-ℤ◌, Some, arith}
+use Rattle.std.proofs.Common.{◌≡◌, refl, sym, ◌∙◌, ap, ap₂, subst, ℕ, zero, suc, ◌+◌, ◌-◌, ◌%◌, ◌<◌, ◌≤◌, ◌⊎◌, inl, inr, Bool, true, false, cond, ◌&&◌, min, max, get_or, ℤ, pos, negsuc, ◌+ℤ◌, ◌-ℤ◌, Some, arith}
 use Rattle.std.specs.Prelude.{int_le}
 use Rattle.std.specs.Ordering.{int_eq}
 use Rattle.std.proofs.lemmas.Int.{ints}
@@ -12,7 +12,7 @@ use Rattle.octi_grid.specs.Costs.{clockwise_from, turn_between}
 use Rattle.octi_grid.proofs.CostLemmas.{number_small, turn_none}
 use Rattle.walk_search.specs.Routes.{allows}
 use Rattle.walk_search.specs.Reaching.{is_along, lies_along}
-use Rattle.walk_search.specs.Moves.{Question, direction, least_turn, turns_due}
+use Rattle.walk_search.specs.Moves.{Question, direction, least_of_turns, least_turns, turns_due}
 use Rattle.walk_search.proofs.Turning.{direction-number_of}
 
 -- ---- the turn from one direction over another is no less than the turn straight on
@@ -50,31 +50,48 @@ port_farther : (t : Bool) (e a d : Dir) → cond t (turn_between e d) 4 ≤ cond
 port_farther true e a d = turn_shorter e a d
 port_farther false e a d = omega arith
 
-pub least_farther : (ports : ℕ) (a d : Dir) (n : ℕ) → least_turn ports d n ≤ least_turn ports a n + turn_between a d
+pub least_more : (ports : ℕ) (d : Dir) (n : ℕ) → least_of_turns ports d (n + 1) ≡ min (least_of_turns ports d n) (cond (allows ports (Some (direction n))) (turn_between (direction n) d) 4)
+unfolding least_of_turns
+least_more ports d n = let one : n + 1 ≡ suc n = omega arith in ap (λ (m : ℕ). least_of_turns ports d m) one
+
+nearer_of : (k l m o t : ℕ) → k ≤ l + t → m ≤ o + t → min k m ≤ min l o + t
+nearer_of k l m o t h g = omega (arith, h, g)
+
+pub least_farther : (ports : ℕ) (a d : Dir) (n : ℕ) → least_of_turns ports d n ≤ least_of_turns ports a n + turn_between a d
+unfolding least_of_turns
 least_farther ports a d zero = omega arith
-least_farther ports a d (suc n) = both (least_farther ports a d n) (port_farther (allows ports (Some (direction n))) (direction n) a d)
-  where
-    both : {k l m o t : ℕ} → k ≤ l + t → m ≤ o + t → min k m ≤ min l o + t
-    both h g = omega (arith, h, g)
+least_farther ports a d (suc n) =
+    let at : Bool = allows ports (Some (direction n)) in
+    nearer_of (least_of_turns ports d n) (least_of_turns ports a n) (cond at (turn_between (direction n) d) 4) (cond at (turn_between (direction n) a) 4) (turn_between a d) (least_farther ports a d n) (port_farther at (direction n) a d)
 
 -- an allowed port itself is turned to by none
-pub least_allowed : (ports l n : ℕ) → allows ports (Some (direction l)) ≡ true → l < n → least_turn ports (direction l) n ≡ 0
+none_of : (k m : ℕ) → (k ≡ 0) ⊎ (m ≡ 0) → min k m ≡ 0
+none_of k m (inl e) = omega (arith, e)
+none_of k m (inr e) = omega (arith, e)
+
+pub least_allowed : (ports l n : ℕ) → allows ports (Some (direction l)) ≡ true → l < n → least_of_turns ports (direction l) n ≡ 0
+unfolding least_of_turns
 least_allowed ports l zero e h = absurd (omega arith)
-least_allowed ports l (suc n) e h = of_case (cases_eq n l)
+least_allowed ports l (suc n) e h =
+    none_of (least_of_turns ports (direction l) n) (cond (allows ports (Some (direction n))) (turn_between (direction n) (direction l)) 4) (of_case (cases_eq n l) (λ before. least_allowed ports l n e before))
   where
-    of_case : (n ≡ l) ⊎ (n ≡ l → ⊥) → least_turn ports (direction l) (suc n) ≡ 0
-    of_case (inl same) =
-        let here : cond (allows ports (Some (direction n))) (turn_between (direction n) (direction l)) 4 ≡ 0 =
-        ap (λ (m : ℕ). cond (allows ports (Some (direction m))) (turn_between (direction m) (direction l)) 4) same ∙ ap (λ t. cond t (turn_between (direction l) (direction l)) 4) e ∙ turn_none (direction l) in
-        omega (arith, here)
-    of_case (inr apart) =
-        let before : l < n = omega arith in
-        let rest : least_turn ports (direction l) n ≡ 0 = least_allowed ports l n e before in
-        omega (arith, rest)
+    of_case : (n ≡ l) ⊎ (n ≡ l → ⊥) → (l < n → least_of_turns ports (direction l) n ≡ 0) → (least_of_turns ports (direction l) n ≡ 0) ⊎ (cond (allows ports (Some (direction n))) (turn_between (direction n) (direction l)) 4 ≡ 0)
+    of_case (inl same) rest =
+        inr (ap (λ (m : ℕ). cond (allows ports (Some (direction m))) (turn_between (direction m) (direction l)) 4) same ∙ ap (λ t. cond t (turn_between (direction l) (direction l)) 4) e ∙ turn_none (direction l))
+    of_case (inr apart) rest = inl (rest (omega (arith, apart, h)))
+
+pub least_small : (ports : ℕ) (d : Dir) (n : ℕ) → least_of_turns ports d n ≤ 4
+unfolding least_of_turns
+least_small ports d zero = omega arith
+least_small ports d (suc n) = smaller (least_of_turns ports d n) (cond (allows ports (Some (direction n))) (turn_between (direction n) d) 4) (least_small ports d n)
+  where
+    smaller : (k m : ℕ) → k ≤ 4 → min k m ≤ 4
+    smaller k m h = omega (arith, h)
 
 -- ---- what lies straight on
 
 along_next : (d : Dir) (x y : ℤ) → is_along d x y ≡ true → is_along d (x +ℤ east_of d) (y +ℤ north_of d) ≡ true
+unfolding is_along
 along_next dir.N x y e = let h = and_parts (int_eq x (pos 0)) (int_le (pos 0) y) e in and_from (int_eq (x +ℤ pos 0) (pos 0)) (int_le (pos 0) (y +ℤ pos 1)) (grind (arith, ints, h.0)) (grind (arith, ints, h.1))
 along_next dir.NE x y e = let h = and_parts (int_eq x y) (int_le (pos 0) y) e in and_from (int_eq (x +ℤ pos 1) (y +ℤ pos 1)) (int_le (pos 0) (y +ℤ pos 1)) (grind (arith, ints, h.0)) (grind (arith, ints, h.1))
 along_next dir.E x y e = let h = and_parts (int_eq y (pos 0)) (int_le (pos 0) x) e in and_from (int_eq (y +ℤ pos 0) (pos 0)) (int_le (pos 0) (x +ℤ pos 1)) (grind (arith, ints, h.0)) (grind (arith, ints, h.1))
@@ -89,6 +106,7 @@ along_next dir.NW x y e =
     and_from (int_eq ((x +ℤ negsuc 0) +ℤ (y +ℤ pos 1)) (pos 0)) (int_le (x +ℤ negsuc 0) (pos 0)) (grind (arith, ints, h.0)) (grind (arith, ints, h.1))
 
 along_none : (d : Dir) (x y : ℤ) → x ≡ pos 0 → y ≡ pos 0 → is_along d x y ≡ true
+unfolding is_along
 along_none d x y e g = ap₂ (λ (u v : ℤ). is_along d u v) e g ∙ here d
   where
     here : (d : Dir) → is_along d (pos 0) (pos 0) ≡ true
@@ -117,6 +135,24 @@ along_first a d = along_step a a d (along_none d (a.x -ℤ a.x) (a.y -ℤ a.y) (
 
 -- ---- the turns that are due
 
+abbrev pub due : Question → GridPoint → Dir → ℕ
+due q p d = cond (lies_along q.from.at p d) (least_of_turns q.from.ports d 8) (max 1 (least_of_turns q.from.ports d 8))
+
+pub turns_to : (q : Question) (p : GridPoint) (l : ℕ) → l < 8 → turns_due q p l ≡ due q p (direction l)
+unfolding turns_due least_turns
+turns_to q p l below = ap (λ (k : ℕ). cond (lies_along q.from.at p (direction l)) k (max 1 k)) (at l below)
+  where
+    at : (l : ℕ) → l < 8 → get_or (least_turns q.from.ports) l 0 ≡ least_of_turns q.from.ports (direction l) 8
+    at zero h = refl
+    at (suc zero) h = refl
+    at (suc (suc zero)) h = refl
+    at (suc (suc (suc zero))) h = refl
+    at (suc (suc (suc (suc zero)))) h = refl
+    at (suc (suc (suc (suc (suc zero))))) h = refl
+    at (suc (suc (suc (suc (suc (suc zero)))))) h = refl
+    at (suc (suc (suc (suc (suc (suc (suc zero))))))) h = refl
+    at (suc (suc (suc (suc (suc (suc (suc (suc n)))))))) h = absurd (omega arith)
+
 due_most : (t : Bool) (l : ℕ) → cond t l (max 1 l) ≤ max 1 l
 due_most true l = omega arith
 due_most false l = omega arith
@@ -125,52 +161,40 @@ due_least : (t : Bool) (l : ℕ) → l ≤ cond t l (max 1 l)
 due_least true l = omega arith
 due_least false l = omega arith
 
-pub due_farther : (q : Question) (p : GridPoint) (a d : Dir) → turns_due q (step_from p d) d ≤ turns_due q p a + turn_between a d
+straight_on : (q : Question) (p : GridPoint) (d : Dir) (t : Bool) → lies_along q.from.at p d ≡ t → due q (step_from p d) d ≤ due q p d
+straight_on q p d true e =
+    let least : ℕ = least_of_turns q.from.ports d 8 in
+    let on : due q (step_from p d) d ≡ least = ap (λ t. cond t least (max 1 least)) (along_step q.from.at p d e) in
+    let here : due q p d ≡ least = ap (λ t. cond t least (max 1 least)) e in
+    omega (arith, on, here)
+straight_on q p d false e =
+    let least : ℕ = least_of_turns q.from.ports d 8 in
+    let on : due q (step_from p d) d ≤ max 1 least = due_most (lies_along q.from.at (step_from p d) d) least in
+    let here : due q p d ≡ max 1 least = ap (λ t. cond t least (max 1 least)) e in
+    omega (arith, on, here)
+
+pub due_farther : (q : Question) (p : GridPoint) (a d : Dir) → due q (step_from p d) d ≤ due q p a + turn_between a d
 due_farther q p a d = of_turn (cases_eq (turn_between a d) 0)
   where
-    after : Bool
-    after = lies_along q.from.at (step_from p d) d
-
-    of_turn : (turn_between a d ≡ 0) ⊎ (turn_between a d ≡ 0 → ⊥) → turns_due q (step_from p d) d ≤ turns_due q p a + turn_between a d
-    of_turn (inl none) = subst (λ (b : Dir). turns_due q (step_from p d) d ≤ turns_due q p b + turn_between a d) (sym (turn_nowhere a d none)) (straight (lies_along q.from.at p d) refl)
-      where
-        straight : (t : Bool) → lies_along q.from.at p d ≡ t → turns_due q (step_from p d) d ≤ turns_due q p d + turn_between a d
-        straight true e =
-            let least : ℕ = least_turn q.from.ports d 8 in
-            let on : turns_due q (step_from p d) d ≡ least = ap (λ t. cond t least (max 1 least)) (along_step q.from.at p d e) in
-            let here : turns_due q p d ≡ least = ap (λ t. cond t least (max 1 least)) e in
-            omega (arith, on, here)
-        straight false e =
-            let least : ℕ = least_turn q.from.ports d 8 in
-            let on : turns_due q (step_from p d) d ≤ max 1 least = due_most after least in
-            let here : turns_due q p d ≡ max 1 least = ap (λ t. cond t least (max 1 least)) e in
-            omega (arith, on, here)
+    of_turn : (turn_between a d ≡ 0) ⊎ (turn_between a d ≡ 0 → ⊥) → due q (step_from p d) d ≤ due q p a + turn_between a d
+    of_turn (inl none) =
+        subst (λ (b : Dir). due q (step_from p d) d ≤ due q p b + turn_between a d) (sym (turn_nowhere a d none))
+        (let on = straight_on q p d (lies_along q.from.at p d) refl in omega (arith, on))
     of_turn (inr some) =
-        let on : turns_due q (step_from p d) d ≤ max 1 (least_turn q.from.ports d 8) = due_most after (least_turn q.from.ports d 8) in
-        let farther : least_turn q.from.ports d 8 ≤ least_turn q.from.ports a 8 + turn_between a d = least_farther q.from.ports a d 8 in
-        let here : least_turn q.from.ports a 8 ≤ turns_due q p a = due_least (lies_along q.from.at p a) (least_turn q.from.ports a 8) in
+        let on : due q (step_from p d) d ≤ max 1 (least_of_turns q.from.ports d 8) = due_most (lies_along q.from.at (step_from p d) d) (least_of_turns q.from.ports d 8) in
+        let farther : least_of_turns q.from.ports d 8 ≤ least_of_turns q.from.ports a 8 + turn_between a d = least_farther q.from.ports a d 8 in
+        let here : least_of_turns q.from.ports a 8 ≤ due q p a = due_least (lies_along q.from.at p a) (least_of_turns q.from.ports a 8) in
         let turns : 1 ≤ turn_between a d = omega (arith, some) in
         omega (arith, on, farther, here, turns)
 
 -- by an allowed port none is due from the home of the start, and one at most from elsewhere
-pub due_first : (q : Question) (l : ℕ) → l < 8 → allows q.from.ports (Some (direction l)) ≡ true → turns_due q (step_from q.from.at (direction l)) (direction l) ≡ 0
+pub due_first : (q : Question) (l : ℕ) → l < 8 → allows q.from.ports (Some (direction l)) ≡ true → due q (step_from q.from.at (direction l)) (direction l) ≡ 0
 due_first q l below e =
-    let least : ℕ = least_turn q.from.ports (direction l) 8 in
+    let least : ℕ = least_of_turns q.from.ports (direction l) 8 in
     ap (λ t. cond t least (max 1 least)) (along_first q.from.at (direction l)) ∙ least_allowed q.from.ports l 8 e below
 
-pub due_once : (q : Question) (p : GridPoint) (l : ℕ) → l < 8 → allows q.from.ports (Some (direction l)) ≡ true → turns_due q p (direction l) ≤ 1
+pub due_once : (q : Question) (p : GridPoint) (l : ℕ) → l < 8 → allows q.from.ports (Some (direction l)) ≡ true → due q p (direction l) ≤ 1
 due_once q p l below e =
-    let least : ℕ = least_turn q.from.ports (direction l) 8 in
-    let none : least ≡ 0 = least_allowed q.from.ports l 8 e below in
-    let most : turns_due q p (direction l) ≤ max 1 least = due_most (lies_along q.from.at p (direction l)) least in
+    let none : least_of_turns q.from.ports (direction l) 8 ≡ 0 = least_allowed q.from.ports l 8 e below in
+    let most : due q p (direction l) ≤ max 1 (least_of_turns q.from.ports (direction l) 8) = due_most (lies_along q.from.at p (direction l)) (least_of_turns q.from.ports (direction l) 8) in
     omega (arith, none, most)
-
-pub due_small : (q : Question) (p : GridPoint) (d : Dir) → turns_due q p d ≤ 4
-due_small q p d =
-    let most : turns_due q p d ≤ max 1 (least_turn q.from.ports d 8) = due_most (lies_along q.from.at p d) (least_turn q.from.ports d 8) in
-    let least : least_turn q.from.ports d 8 ≤ 4 = least_small q.from.ports d 8 in
-    omega (arith, most, least)
-  where
-    least_small : (ports : ℕ) (d : Dir) (n : ℕ) → least_turn ports d n ≤ 4
-    least_small ports d zero = omega arith
-    least_small ports d (suc n) = omega (arith, least_small ports d n)

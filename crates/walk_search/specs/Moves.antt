@@ -48,7 +48,6 @@ pub record IsQuestion (q : Question) : Type 0 where
   pub from_ports : q.from.is_free ≡ true → is_all_or_none q.from.ports ≡ true
   pub to_ports : q.to.is_free ≡ true → is_all_or_none q.to.ports ≡ true
 
-
 -- the direction of a number
 abbrev pub direction : ℕ → Dir
 direction n = slice_index_or directions n dir.N
@@ -134,28 +133,39 @@ pub record IsMove (q : Question) (n l m c : ℕ) : Type 0 where
 
 -- the least turn from one of the first so many directions, as far as their ports are allowed, to a direction; 4 where
 -- none is
-abbrev pub least_turn : ℕ → Dir → ℕ → ℕ
-least_turn ports d zero = 4
-least_turn ports d (suc n) = min (least_turn ports d n) (if allows ports (Some (direction n)) then turn_between (direction n) d else 4)
+unfoldable pub least_of_turns : ℕ → Dir → ℕ → ℕ
+least_of_turns ports d zero = 4
+least_of_turns ports d (suc n) = min (least_of_turns ports d n) (if allows ports (Some (direction n)) then turn_between (direction n) d else 4)
 
--- the turns that a walk makes at least that leaves its start by an allowed port and comes to a point in a direction: it
--- comes there without any where the point lies in that direction from the start
-abbrev pub turns_due : Question → GridPoint → Dir → ℕ
-turns_due q p d =
-    if lies_along q.from.at p d then least_turn q.from.ports d 8 else max 1 (least_turn q.from.ports d 8)
+-- the least turn from an allowed port to each direction, by its number
+unfoldable pub least_turns : ℕ → List ℕ
+least_turns ports = map (λ d. least_of_turns ports d 8) directions
 
--- the seats are those of both ends, and the turns the least to each direction
+-- the seats are those of both ends, and the turns the least from the ports of the start
 pub record IsAsked (q : Question) (starts ends : List GridPoint) (turns : List ℕ) : Type 0 where
   pub asked : IsQuestion q
   pub starts_are : starts ≡ starts_of q
   pub ends_are : ends ≡ ends_of q
-  pub turns_are : turns ≡ map (λ d. least_turn q.from.ports d 8) directions
+  pub turns_are : turns ≡ least_turns q.from.ports
 
--- what it costs at least to come to a point by the direction of a number, or to choose it as the seat that a walk starts at
-abbrev pub ahead_at : Question → GridPoint → ℕ → ℕ
-ahead_at q p arrival =
-    if arrival == 8 then reach_of q.from.at p + (if are_one q.from.at p then 0 else 1)
-    else reach_of q.from.at (step_from p (reverse_of (direction arrival))) + (step_cost (direction arrival) + turns_due q p (direction arrival))
+-- the turns that a walk makes at least that leaves its start by an allowed port and comes to a point by the direction of a
+-- number: where the point does not lie in that direction from the start, straight on, there is one at least
+unfoldable pub turns_due : Question → GridPoint → ℕ → ℕ
+turns_due q p l =
+    if lies_along q.from.at p (direction l) then slice_index_or (least_turns q.from.ports) l 0
+    else max 1 (slice_index_or (least_turns q.from.ports) l 0)
+
+-- what it costs at least to choose a point as the seat that a walk starts at; one less at its home
+unfoldable pub seat_ahead : Question → GridPoint → ℕ
+seat_ahead q p = if are_one q.from.at p then reach_of q.from.at p else reach_of q.from.at p + 1
+
+-- what it costs at least to come to a point by the direction of a number
+unfoldable pub step_ahead : Question → GridPoint → ℕ → ℕ
+step_ahead q p l = reach_of q.from.at (step_from p (reverse_of (direction l))) + (step_cost (direction l) + turns_due q p l)
+
+-- the same by the number of an arrival
+unfoldable pub ahead_at : Question → GridPoint → ℕ → ℕ
+ahead_at q p arrival = if arrival == 8 then seat_ahead q p else step_ahead q p arrival
 
 -- what it costs at least to come to a spot
 abbrev pub spot_ahead : Question → Option Spot → ℕ

@@ -14,7 +14,7 @@ abbrev pub reach_of : GridPoint → GridPoint → ℕ
 reach_of a b = across (unsigned_abs (b.x -ℤ a.x)) (unsigned_abs (b.y -ℤ a.y))
 
 -- so far to the east and to the north lies a place on the straight line in a direction
-abbrev pub is_along : Dir → ℤ → ℤ → Bool
+unfoldable pub is_along : Dir → ℤ → ℤ → Bool
 is_along dir.N x y = int_eq x (pos 0) && int_le (pos 0) y
 is_along dir.NE x y = int_eq x y && int_le (pos 0) y
 is_along dir.E x y = int_eq y (pos 0) && int_le (pos 0) x

@@ -1,9 +1,8 @@
 //! Costs that are offered to the spots from which others are reached.
 
 ghost use Rattle.std.specs.Prelude.{◌≡◌, ◌+◌, ◌*◌, ◌<◌, ◌≤◌, ◌^◌, ◌==◌, ◌&&◌, OnOk, Some, true, length};
-ghost use Rattle.std.specs.BinaryHeap.{IsHeap, heap_items};
 ghost use Rattle.octi_grid.specs.Ways.{CanStep, are_one, reverse_of};
-ghost use Rattle.state_search.specs.Searching.{AreLowered, IsLowered, queue_cmp};
+ghost use Rattle.state_search.specs.Searching.{AreLowered, IsLowered};
 ghost use Rattle.grid_board.specs.Boards.{is_inside};
 ghost use Rattle.walk_search.specs.Spots.{IsSpot, number_of_spot, spot_of, spots_of};
 ghost use Rattle.walk_search.specs.Asking.{question};
@@ -31,13 +30,17 @@ fn offer(
     requires spot { IsSpot (question asked.now).board.bounds spot }
     requires cost { cost < 2 ^ 40 }
     requires each { length known.old ≡ spots_of (question asked.now).board.bounds + 1 }
-    requires order { IsHeap queue_cmp (heap_items queue.old) }
-    ensures order { OnOk result (IsHeap queue_cmp (heap_items queue.new)) }
     ensures each { OnOk result (length known.new ≡ spots_of (question asked.now).board.bounds + 1) }
-    ensures lowered { OnOk result (IsLowered ((space_of (question asked.now)).ahead (number_of_spot (question asked.now).board.bounds spot)) known.old known.new (heap_items queue.old) (heap_items queue.new) (number_of_spot (question asked.now).board.bounds spot) cost) }
+    ensures lowered { OnOk result (IsLowered ((space_of (question asked.now)).ahead (number_of_spot (question asked.now).board.bounds spot)) known.old known.new queue.old queue.new (number_of_spot (question asked.now).board.bounds spot) cost) }
 {
     let number = asked.number_of(spot);
-    lower(known, queue, number, cost, asked.ahead_at(spot.at, spot.arrival))
+    lower(
+        known,
+        queue,
+        number,
+        cost,
+        asked.ahead_at(spot.at, spot.arrival),
+    )
 }
 
 /// Offers to each spot where a walk may end what it costs to end there.
@@ -47,10 +50,8 @@ pub(crate) fn offer_ends(
     queue: &mut Queue,
 ) -> Result<(), NoMemory>
     requires each { length known.old ≡ spots_of (question asked.now).board.bounds + 1 }
-    requires order { IsHeap queue_cmp (heap_items queue.old) }
-    ensures order { OnOk result (IsHeap queue_cmp (heap_items queue.new)) }
     ensures each { OnOk result (length known.new ≡ spots_of (question asked.now).board.bounds + 1) }
-    ensures lowered { OnOk result (AreLowered (space_of (question asked.now)).ahead known.old known.new (heap_items queue.old) (heap_items queue.new) (end_offers (question asked.now) (10 * length (ends_of (question asked.now))))) }
+    ensures lowered { OnOk result (AreLowered (space_of (question asked.now)).ahead known.old known.new queue.old queue.new (end_offers (question asked.now) (10 * length (ends_of (question asked.now))))) }
 {
     for k in 0..10 * asked.end_count() {
         offer_ends_at(asked, asked.end(k / 10), k % 10, known, queue)?;
@@ -69,10 +70,8 @@ fn offer_ends_at(
     requires inside { is_inside (question asked.now).board p ≡ true }
     requires group { group < 10 }
     requires each { length known.old ≡ spots_of (question asked.now).board.bounds + 1 }
-    requires order { IsHeap queue_cmp (heap_items queue.old) }
-    ensures order { OnOk result (IsHeap queue_cmp (heap_items queue.new)) }
     ensures each { OnOk result (length known.new ≡ spots_of (question asked.now).board.bounds + 1) }
-    ensures lowered { OnOk result (AreLowered (space_of (question asked.now)).ahead known.old known.new (heap_items queue.old) (heap_items queue.new) (offers_at_end (question asked.now) p group 8)) }
+    ensures lowered { OnOk result (AreLowered (space_of (question asked.now)).ahead known.old known.new queue.old queue.new (offers_at_end (question asked.now) p group 8)) }
 {
     if !asked.is_end(p, group) {
         return Ok(());
@@ -92,17 +91,22 @@ fn offer_ends_in(
     requires inside { is_inside (question asked.now).board p ≡ true }
     requires group { group < 10 }
     requires each { length known.old ≡ spots_of (question asked.now).board.bounds + 1 }
-    requires order { IsHeap queue_cmp (heap_items queue.old) }
-    ensures order { OnOk result (IsHeap queue_cmp (heap_items queue.new)) }
     ensures each { OnOk result (length known.new ≡ spots_of (question asked.now).board.bounds + 1) }
-    ensures lowered { OnOk result (AreLowered (space_of (question asked.now)).ahead known.old known.new (heap_items queue.old) (heap_items queue.new) (offers_at_end (question asked.now) p group 8)) }
+    ensures lowered { OnOk result (AreLowered (space_of (question asked.now)).ahead known.old known.new queue.old queue.new (offers_at_end (question asked.now) p group 8)) }
 {
     let number = asked.place_of(p, group);
     let cost = asked.to_cost(p);
     let mut row = known.row(number);
     for arrival in 0..START {
         let ahead = asked.ahead_at(p, arrival);
-        offer_end(asked, Place { number, ahead }, arrival, cost, &mut row, queue)?;
+        offer_end(
+            asked,
+            Place { number, ahead },
+            arrival,
+            cost,
+            &mut row,
+            queue,
+        )?;
     }
     known.put(number, row)
 }
@@ -121,10 +125,8 @@ fn offer_end(
     requires place { place.number < 2 ^ 28 }
     requires cost { cost < 2 ^ 40 }
     requires ahead { place.ahead < 2 ^ 40 }
-    requires order { IsHeap queue_cmp (heap_items queue.old) }
-    ensures order { OnOk result (IsHeap queue_cmp (heap_items queue.new)) }
     ensures whole { OnOk result (length row.new.costs ≡ 9) }
-    ensures offered { OnOk result (IsRowOffered (allows (question asked.now).to.ports (Some (reverse_of (direction arrival)))) place.number place.ahead row.old.costs row.new.costs (heap_items queue.old) (heap_items queue.new) arrival cost) }
+    ensures offered { OnOk result (IsRowOffered (allows (question asked.now).to.ports (Some (reverse_of (direction arrival)))) place.number place.ahead row.old.costs row.new.costs queue.old queue.new arrival cost) }
 {
     if !asked.allows_end(arrival) {
         return Ok(());
@@ -143,10 +145,8 @@ pub(crate) fn offer_back(
     requires at { at < spots_of (question asked.now).board.bounds + 1 }
     requires cost { cost < 2 ^ 39 }
     requires each { length known.old ≡ spots_of (question asked.now).board.bounds + 1 }
-    requires order { IsHeap queue_cmp (heap_items queue.old) }
-    ensures order { OnOk result (IsHeap queue_cmp (heap_items queue.new)) }
     ensures each { OnOk result (length known.new ≡ spots_of (question asked.now).board.bounds + 1) }
-    ensures lowered { OnOk result (AreLowered (space_of (question asked.now)).ahead known.old known.new (heap_items queue.old) (heap_items queue.new) (spot_offers (question asked.now) (spot_of (question asked.now).board.bounds at) cost)) }
+    ensures lowered { OnOk result (AreLowered (space_of (question asked.now)).ahead known.old known.new queue.old queue.new (spot_offers (question asked.now) (spot_of (question asked.now).board.bounds at) cost)) }
 {
     match asked.spot_of(at) {
         None => Ok(()),
@@ -165,10 +165,8 @@ fn offer_from(
     requires spot { IsSpot (question asked.now).board.bounds spot }
     requires cost { cost < 2 ^ 39 }
     requires each { length known.old ≡ spots_of (question asked.now).board.bounds + 1 }
-    requires order { IsHeap queue_cmp (heap_items queue.old) }
-    ensures order { OnOk result (IsHeap queue_cmp (heap_items queue.new)) }
     ensures each { OnOk result (length known.new ≡ spots_of (question asked.now).board.bounds + 1) }
-    ensures lowered { OnOk result (AreLowered (space_of (question asked.now)).ahead known.old known.new (heap_items queue.old) (heap_items queue.new) (spot_offers (question asked.now) (Some spot) cost)) }
+    ensures lowered { OnOk result (AreLowered (space_of (question asked.now)).ahead known.old known.new queue.old queue.new (spot_offers (question asked.now) (Some spot) cost)) }
 {
     if spot.arrival == START {
         return offer_seats(asked, spot, cost, known, queue);
@@ -188,10 +186,8 @@ fn offer_seats(
 ) -> Result<(), NoMemory>
     requires cost { cost < 2 ^ 39 }
     requires each { length known.old ≡ spots_of (question asked.now).board.bounds + 1 }
-    requires order { IsHeap queue_cmp (heap_items queue.old) }
-    ensures order { OnOk result (IsHeap queue_cmp (heap_items queue.new)) }
     ensures each { OnOk result (length known.new ≡ spots_of (question asked.now).board.bounds + 1) }
-    ensures lowered { OnOk result (AreLowered (space_of (question asked.now)).ahead known.old known.new (heap_items queue.old) (heap_items queue.new) (seat_offers (question asked.now) spot cost (length (starts_of (question asked.now))))) }
+    ensures lowered { OnOk result (AreLowered (space_of (question asked.now)).ahead known.old known.new queue.old queue.new (seat_offers (question asked.now) spot cost (length (starts_of (question asked.now))))) }
 {
     for i in 0..asked.start_count() {
         offer_seat(asked, spot, cost, i, known, queue)?;
@@ -211,10 +207,8 @@ fn offer_seat(
     requires i { i < length (starts_of (question asked.now)) }
     requires cost { cost < 2 ^ 39 }
     requires each { length known.old ≡ spots_of (question asked.now).board.bounds + 1 }
-    requires order { IsHeap queue_cmp (heap_items queue.old) }
-    ensures order { OnOk result (IsHeap queue_cmp (heap_items queue.new)) }
     ensures each { OnOk result (length known.new ≡ spots_of (question asked.now).board.bounds + 1) }
-    ensures lowered { OnOk result (AreLowered (space_of (question asked.now)).ahead known.old known.new (heap_items queue.old) (heap_items queue.new) (seat_offer (question asked.now) spot cost i)) }
+    ensures lowered { OnOk result (AreLowered (space_of (question asked.now)).ahead known.old known.new queue.old queue.new (seat_offer (question asked.now) spot cost i)) }
 {
     if !starts_at(asked, spot, i) {
         return Ok(());
@@ -253,10 +247,8 @@ fn offer_step(
     requires group { group < 10 }
     requires cost { cost < 2 ^ 39 }
     requires each { length known.old ≡ spots_of (question asked.now).board.bounds + 1 }
-    requires order { IsHeap queue_cmp (heap_items queue.old) }
-    ensures order { OnOk result (IsHeap queue_cmp (heap_items queue.new)) }
     ensures each { OnOk result (length known.new ≡ spots_of (question asked.now).board.bounds + 1) }
-    ensures lowered { OnOk result (AreLowered (space_of (question asked.now)).ahead known.old known.new (heap_items queue.old) (heap_items queue.new) (back_offers (question asked.now) p group dir cost)) }
+    ensures lowered { OnOk result (AreLowered (space_of (question asked.now)).ahead known.old known.new queue.old queue.new (back_offers (question asked.now) p group dir cost)) }
 {
     if !asked.is_open(p, dir) {
         return Ok(());
@@ -279,10 +271,8 @@ fn offer_passing(
     requires group { group < 10 }
     requires cost { cost < 2 ^ 39 }
     requires each { length known.old ≡ spots_of (question asked.now).board.bounds + 1 }
-    requires order { IsHeap queue_cmp (heap_items queue.old) }
-    ensures order { OnOk result (IsHeap queue_cmp (heap_items queue.new)) }
     ensures each { OnOk result (length known.new ≡ spots_of (question asked.now).board.bounds + 1) }
-    ensures lowered { OnOk result (AreLowered (space_of (question asked.now)).ahead known.old known.new (heap_items queue.old) (heap_items queue.new) (passing_offers (question asked.now) p group dir cost)) }
+    ensures lowered { OnOk result (AreLowered (space_of (question asked.now)).ahead known.old known.new queue.old queue.new (passing_offers (question asked.now) p group dir cost)) }
 {
     if !asked.is_passable(p) {
         return Ok(());
@@ -304,10 +294,8 @@ fn offer_arrivals(
     requires group { group < 10 }
     requires cost { cost < 2 ^ 39 }
     requires each { length known.old ≡ spots_of (question asked.now).board.bounds + 1 }
-    requires order { IsHeap queue_cmp (heap_items queue.old) }
-    ensures order { OnOk result (IsHeap queue_cmp (heap_items queue.new)) }
     ensures each { OnOk result (length known.new ≡ spots_of (question asked.now).board.bounds + 1) }
-    ensures lowered { OnOk result (AreLowered (space_of (question asked.now)).ahead known.old known.new (heap_items queue.old) (heap_items queue.new) (arrival_offers (question asked.now) p group dir cost 8)) }
+    ensures lowered { OnOk result (AreLowered (space_of (question asked.now)).ahead known.old known.new queue.old queue.new (arrival_offers (question asked.now) p group dir cost 8)) }
 {
     let number = asked.place_of(p, group);
     let step = u64::from(step_cost(dir));
@@ -334,10 +322,8 @@ fn offer_start(
     requires group { group < 10 }
     requires cost { cost < 2 ^ 39 }
     requires each { length known.old ≡ spots_of (question asked.now).board.bounds + 1 }
-    requires order { IsHeap queue_cmp (heap_items queue.old) }
-    ensures order { OnOk result (IsHeap queue_cmp (heap_items queue.new)) }
     ensures each { OnOk result (length known.new ≡ spots_of (question asked.now).board.bounds + 1) }
-    ensures lowered { OnOk result (AreLowered (space_of (question asked.now)).ahead known.old known.new (heap_items queue.old) (heap_items queue.new) (start_offers (question asked.now) p group dir cost)) }
+    ensures lowered { OnOk result (AreLowered (space_of (question asked.now)).ahead known.old known.new queue.old queue.new (start_offers (question asked.now) p group dir cost)) }
 {
     if !asked.allows_start(p, group, dir) {
         return Ok(());

@@ -20,7 +20,15 @@ fn difference(a: i32, b: i32) -> u64
     ensures value { result ≡ unsigned_abs (b -ℤ a) }
     ensures within { result < 2 ^ 33 }
 {
-    (i64::from(b) - i64::from(a)).unsigned_abs()
+    apart(a, b).unsigned_abs()
+}
+
+/// How far a coordinate is above another.
+fn apart(a: i32, b: i32) -> i64
+    ensures value { result ≡ b -ℤ a }
+    ensures within { unsigned_abs result < 2 ^ 33 }
+{
+    i64::from(b) - i64::from(a)
 }
 
 /// The same by the two differences.
@@ -37,10 +45,11 @@ fn across(m: u64, n: u64) -> u64
 pub(crate) fn lies_along(a: GridPoint, b: GridPoint, dir: Dir) -> bool
     ensures { result ≡ lies_along a b dir }
 {
-    is_along(dir, i64::from(b.x) - i64::from(a.x), i64::from(b.y) - i64::from(a.y))
+    is_along(dir, apart(a.x, b.x), apart(a.y, b.y))
 }
 
 /// The same by how far it lies to the east and to the north.
+#[tactic(auto, unfolding(crate::specs::Reaching::is_along))]
 fn is_along(dir: Dir, x: i64, y: i64) -> bool
     requires x { unsigned_abs x < 2 ^ 33 }
     requires y { unsigned_abs y < 2 ^ 33 }

@@ -1,8 +1,7 @@
 //! The search for the least costs to the ends.
 
 ghost use Rattle.std.specs.Prelude.{◌≡◌, ℕ, ◌+◌, ◌<◌, ◌↔◌, [], Some, None, true, IsTrue, IfOk, IfSome, IfNone, OnOk, length, replicate};
-ghost use Rattle.std.specs.BinaryHeap.{IsHeap, heap_items};
-ghost use Rattle.state_search.specs.Searching.{IsSearchedUpTo, known_at, lesser_limit, queue_cmp};
+ghost use Rattle.state_search.specs.Searching.{IsSearchedUpTo, known_at, lesser_limit};
 ghost use Rattle.walk_search.specs.Spots.{spots_of};
 ghost use Rattle.walk_search.specs.Asking.{question};
 ghost use Rattle.walk_search.specs.Moves.{space_of};
@@ -12,7 +11,7 @@ use crate::asked::Asked;
 use crate::enclosed::is_shut_in;
 use crate::offers::{offer_back, offer_ends};
 use map_base::NoMemory;
-use state_search::{Known, Queue, next};
+use state_search::{Known, Queue};
 use std::alloc::Global;
 
 /// After how many rounds a search looks whether the start is shut in.
@@ -44,15 +43,14 @@ fn search(
     limit: Option<u64>,
 ) -> Result<(), NoMemory>
     requires nothing_known { known.old ≡ replicate (spots_of (question asked.now).board.bounds + 1) None }
-    requires nothing_waits { heap_items queue.old ≡ [] }
-    requires order { IsHeap queue_cmp (heap_items queue.old) }
+    requires nothing_waits { queue.old ≡ [] }
     ensures searched { OnOk result (IsSearchedUpTo limit (space_of (question asked.now)) (spots_of (question asked.now).board.bounds) known.new) }
     ensures each { OnOk result (length known.new ≡ spots_of (question asked.now).board.bounds + 1) }
 {
     let before = asked.before();
     offer_ends(asked, known, queue)?;
     let mut rounds = 0u32;
-    while let Some((estimate, at)) = next(queue, lesser(known.of(before), limit)) {
+    while let Some((estimate, at)) = queue.next(lesser(known.of(before), limit)) {
         if is_in_vain(alloc, asked, rounds)? {
             return Ok(());
         }

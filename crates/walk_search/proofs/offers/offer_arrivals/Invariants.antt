@@ -1,6 +1,5 @@
 use Rattle.std.proofs.Common.{◌≡◌, length}
-use Rattle.std.specs.BinaryHeap.{IsHeap, heap_items}
-use Rattle.state_search.specs.Searching.{AreLowered, queue_cmp}
+use Rattle.state_search.specs.Searching.{AreLowered}
 use Rattle.walk_search.specs.Asking.{question}
 use Rattle.walk_search.specs.Moves.{space_of}
 use Rattle.walk_search.specs.Offers.{arrival_offers}
@@ -9,8 +8,7 @@ use Rattle.walk_search.proofs.offers.offer_arrivals.Given as goal
 
 abbrev pub invariant-loop-arrival : goal.invariant-loop-arrival
 invariant-loop-arrival l = record {
-  order : IsHeap queue_cmp (heap_items l.queue);
   whole : length l.row.costs ≡ 9;
   lowered :
-      AreLowered (space_of (question l.asked)).ahead l.initial.known (with_row l.initial.known l.number l.row.costs) (heap_items l.initial.queue) (heap_items l.queue) (arrival_offers (question l.asked) l.fn.p l.group l.dir l.cost l.arrival);
+      AreLowered (space_of (question l.asked)).ahead l.initial.known (with_row l.initial.known l.number l.row.costs) l.initial.queue l.queue (arrival_offers (question l.asked) l.fn.p l.group l.dir l.cost l.arrival);
 }

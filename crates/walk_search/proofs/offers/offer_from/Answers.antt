@@ -1,5 +1,4 @@
 use Rattle.std.proofs.Common.{sym, ◌∙◌, ap, subst}
-use Rattle.std.specs.BinaryHeap.{heap_items}
 use Rattle.std.proofs.lemmas.Result.{on_ok_weaker}
 use Rattle.octi_grid.specs.declared.point.GridPoint.{GridPoint}
 use Rattle.octi_grid.specs.Ways.{CanStep, step_from}
@@ -18,6 +17,6 @@ offer_step-requires-clause-p c =
 pub returns-clause-lowered : goal.returns-clause-lowered
 returns-clause-lowered c =
     on_ok_weaker c.offer_step.result
-    (λ h. offered_step (question c.args.asked.now) c.args.spot c.args.cost c.step-back.result c.direction-dir.result c.args.known.now c.offer_step.new.known (heap_items c.args.queue.now) (heap_items c.offer_step.new.queue) c.if-spot-eq-START.false c.direction-dir.ensures
+    (λ h. offered_step (question c.args.asked.now) c.args.spot c.args.cost c.step-back.result c.direction-dir.result c.args.known.now c.offer_step.new.known c.args.queue.now c.offer_step.new.queue c.if-spot-eq-START.false c.direction-dir.ensures
     (c.step-back.ensures ∙ ap (step_from c.args.spot.at) c.reverse.ensures) h)
     c.offer_step.ensures.lowered

@@ -1,6 +1,5 @@
 use Rattle.std.proofs.Common.{◌≡◌, ◌+◌, length}
-use Rattle.std.specs.BinaryHeap.{IsHeap, heap_items}
-use Rattle.state_search.specs.Searching.{AreLowered, queue_cmp}
+use Rattle.state_search.specs.Searching.{AreLowered}
 use Rattle.walk_search.specs.Asking.{question}
 use Rattle.walk_search.specs.Spots.{spots_of}
 use Rattle.walk_search.specs.Moves.{space_of}
@@ -9,8 +8,7 @@ use Rattle.walk_search.proofs.offers.offer_seats.Given as goal
 
 abbrev pub invariant-loop-i : goal.invariant-loop-i
 invariant-loop-i l = record {
-  order : IsHeap queue_cmp (heap_items l.queue);
   each : length l.known ≡ spots_of (question l.asked).board.bounds + 1;
   lowered :
-      AreLowered (space_of (question l.asked)).ahead l.initial.known l.known (heap_items l.initial.queue) (heap_items l.queue) (seat_offers (question l.asked) l.spot l.cost l.i);
+      AreLowered (space_of (question l.asked)).ahead l.initial.known l.known l.initial.queue l.queue (seat_offers (question l.asked) l.spot l.cost l.i);
 }
