@@ -1,4 +1,4 @@
-use Rattle.std.proofs.Common.{◌∙◌, ap, subst, ℕ, ◌+◌, ◌*◌, ◌<◌, List, [], Option, None, replicate, length}
+use Rattle.std.proofs.Common.{◌∙◌, ap, subst, ℕ, ◌+◌, ◌*◌, ◌<◌, List, [], Option, None, replicate, length, arith}
 use Rattle.std.specs.declared.cmp.Reverse.{Reverse}
 use Rattle.state_search.specs.Searching.{AreLowered, IsBeyond, known_at, lesser_limit, nothing}
 use Rattle.state_search.proofs.Searches.{less_left, search_ends_at, search_stale, search_taken, taken_in_range}
@@ -59,6 +59,10 @@ loop-estimate-smaller-in-Continue-branch-3 c =
     (spot_offers q (spot_of q.board.bounds c.in-Some.at) c.in-Some-fresh_cost.cost) (steps_are_offered q c.before-before.ensures.asked c.in-Some.at c.in-Some-fresh_cost.cost in_range) c.in-Some-fresh_cost.ensures.some.0 taken
     c.in_ok-offer_back.ensures.lowered in
     less_left 21 c.loop-estimate.known c.offer_back.new.known c.loop-estimate.queue c.next.new.self c.offer_back.new.queue c.in-Some.at c.in-Some.estimate c.in-Some.ensures.taken spread.left
+
+pub loop-estimate-smaller : goal.loop-estimate-smaller
+loop-estimate-smaller c =
+    less_left 21 c.loop-estimate.known c.loop-estimate.known c.loop-estimate.queue c.next.new.self c.next.new.self c.in-Some.at c.in-Some.estimate c.in-Some.ensures.taken (omega arith)
 
 pub loop-estimate-preserved-in-Continue-branch-3 :
     goal.loop-estimate-preserved-in-Continue-branch-3
