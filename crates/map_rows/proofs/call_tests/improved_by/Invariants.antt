@@ -1,4 +1,0 @@
-use Rattle.map_rows.proofs.call_tests.improved_by.Given as goal
-
-abbrev pub ghosts-improved_counted : goal.ghosts-improved_counted
-ghosts-improved_counted a = record { name = a.blank.name; parts = a.blank.parts }
