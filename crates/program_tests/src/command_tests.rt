@@ -57,35 +57,6 @@ fn feed_with(alloc: Global, stops: Option<&str>) -> Result<Vec<(Text, Vec<u8>)>,
 const ONE_STATION: &str = "stop_id,stop_name,stop_lat,stop_lon\nX,X,-0.0001,0\n";
 
 #[test]
-fn stations_are_printed_or_the_first_bad_row(rt: HostRuntime) -> Result<(), Fail> {
-    let alloc = rt.alloc();
-    let cases = [
-        (Some(ONE_STATION), 0, "0 -112 X\n"),
-        (
-            Some("stop_id,stop_name,stop_lat,stop_lon\nX,X,9e,0\n"),
-            3,
-            "bad row: stops.txt 2 bad latitude\n",
-        ),
-        (None, 3, "bad row: stops.txt 0 missing file\n"),
-        (Some("stop_id,stop_lat,stop_lon\n"), 0, ""),
-        (
-            Some("stop_id,stop_lat,stop_lon\nA\u{1}B,60,0.0001\nC,0,-0.0001\n"),
-            0,
-            "55 66792000 A\u{FFFD}B\n-56 0 C\n",
-        ),
-    ];
-    for (stops, status, said) in cases {
-        let words = words_of(alloc, "stations feed")?;
-        let mut files = SteadyFiles::with(feed_with(alloc, stops)?);
-        let mut sinks = SteadySinks::none(alloc);
-        assert_eq!(rt; run_on(alloc, &words, &mut files, &mut sinks), status);
-        let held = sinks.written(&Target::Said).unwrap_or(b"");
-        assert_eq!(rt; held, said.as_bytes());
-    }
-    Ok(())
-}
-
-#[test]
 fn a_fault_of_reading_names_the_path(rt: HostRuntime) -> Result<(), Fail> {
     let alloc = rt.alloc();
     let words = words_of(alloc, "stations feed")?;
@@ -170,60 +141,6 @@ fn words_that_are_not_read_get_a_text(rt: HostRuntime) -> Result<(), Fail> {
         assert_eq!(rt; run_on(alloc, &words, &mut files, &mut sinks), 2);
         let held = sinks.written(&Target::Said).unwrap_or(b"");
         assert!(rt; held.starts_with(beginning.as_bytes()), "{line}");
-    }
-    Ok(())
-}
-
-#[test]
-fn what_is_set_comes_behind_the_file(rt: HostRuntime) -> Result<(), Fail> {
-    let alloc = rt.alloc();
-    for (line, status, said) in [
-        (
-            "graph --set near=19 feed --settings feed/stops.txt",
-            10,
-            "bad settings: near\n",
-        ),
-        (
-            "graph feed --settings feed/stops.txt --set near=auto",
-            10,
-            "bad settings: not toml\n",
-        ),
-        (
-            "graph --set near=19 --set near=20 feed",
-            10,
-            "bad settings: near\n",
-        ),
-        (
-            "graph --set near=20 --set=cell=0 feed --settings feed/stops.txt",
-            3,
-            "bad row: routes.txt 0 missing file\n",
-        ),
-    ] {
-        let words = words_of(alloc, line)?;
-        let mut files = SteadyFiles::with(feed_with(alloc, Some("near = 500"))?);
-        let mut sinks = SteadySinks::none(alloc);
-        assert_eq!(rt; run_on(alloc, &words, &mut files, &mut sinks), status);
-        let held = sinks.written(&Target::Said).unwrap_or(b"");
-        assert_eq!(rt; held, said.as_bytes());
-    }
-    Ok(())
-}
-
-#[test]
-fn a_file_of_settings_comes_first(rt: HostRuntime) -> Result<(), Fail> {
-    let alloc = rt.alloc();
-    let words = words_of(alloc, "graph feed --settings feed/stops.txt")?;
-    for (settings, status, said) in [
-        (None, 10, "bad settings: missing\n"),
-        (Some("near = "), 10, "bad settings: not toml\n"),
-        (Some("near = 19\ncell = 9\n"), 10, "bad settings: cell\n"),
-        (Some("near = 20"), 3, "bad row: routes.txt 0 missing file\n"),
-    ] {
-        let mut files = SteadyFiles::with(feed_with(alloc, settings)?);
-        let mut sinks = SteadySinks::none(alloc);
-        assert_eq!(rt; run_on(alloc, &words, &mut files, &mut sinks), status);
-        let held = sinks.written(&Target::Said).unwrap_or(b"");
-        assert_eq!(rt; held, said.as_bytes());
     }
     Ok(())
 }

@@ -51,6 +51,20 @@ read fault: feed/stop_times.txt
     Ok(())
 }
 
+#[test]
+fn a_fault_of_reading_names_the_table(rt: HostRuntime) -> Result<(), Fail> {
+    let alloc = rt.alloc();
+    let words = words_of(alloc, "graph feed")?;
+    // Each table is begun, read and read to its end: the seventh call begins the third table.
+    let listed = vec![in alloc; 7]?;
+    let mut files = MemoryFiles::with(smallest_feed(alloc)?, listed);
+    let mut sinks = SteadySinks::none(alloc);
+    assert_eq!(rt; run_on(alloc, &words, &mut files, &mut sinks), 7);
+    let held = sinks.written(&Target::Said).unwrap_or(b"");
+    assert_eq!(rt; held, b"read fault: feed/trips.txt\n".as_slice());
+    Ok(())
+}
+
 /// What `make` leaves of the smallest map and its certificate in this room: its status, the map, and the certificate, if
 /// it was begun.
 fn made_in(alloc: Global, room: u64) -> Result<(u8, Vec<u8>, Option<Vec<u8>>), Fail> {

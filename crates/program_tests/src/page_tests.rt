@@ -1,38 +1,38 @@
-//! The commands `page` and `trial` over files in memory.
+//! A map that is made with a page over files in memory, and pages.
 
 use crate::command_tests::{run_on, words_of};
-use crate::graph_tests::put_file;
-use crate::map_tests::{SMALLEST_MAP, SMALLEST_POSTER, at, smallest_feed};
-use files_door::{SteadyFiles, SteadySinks, Target};
-use map_base::{NoMemory, Text};
+use crate::map_tests::{SMALLEST_MAP, at, smallest_feed};
+use files_door::{SteadyFiles, SteadySinks};
 use map_page::page_of;
-use std::alloc::Global;
 use std::test::Fail;
 
-/// The file `map.html`.
-fn page(alloc: Global) -> Result<Target, NoMemory> {
-    Ok(Target::Path(Text::of(alloc, "map.html")?))
-}
-
-#[test]
-fn a_page_has_the_map_in_it(rt: HostRuntime) -> Result<(), Fail> {
-    let alloc = rt.alloc();
-    let words = words_of(alloc, "page map.svg map.html")?;
-    let mut files = Vec::new(alloc);
-    put_file(alloc, &mut files, "map.svg", "<svg/>\n")?;
-    let mut files = SteadyFiles::with(files);
-    let mut sinks = SteadySinks::none(alloc);
-    assert_eq!(rt; run_on(alloc, &words, &mut files, &mut sinks), 0);
-    let page = sinks.written(&page(alloc)?).unwrap_or(b"");
-    assert!(rt; page.starts_with(b"<!DOCTYPE html>\n".as_slice()));
-    let map = page
-        .windows(7)
-        .filter(|part| *part == b"<svg/>\n".as_slice())
-        .count();
-    assert_eq!(rt; map, 1);
-    assert!(rt; page.ends_with(b"<!-- the picture ends here -->\n".as_slice()));
-    Ok(())
-}
+/// The poster of the smallest feed: its line ends at both stations, and the legend stands below.
+const SMALLEST_POSTER: &str = "\
+<svg xmlns=\"http://www.w3.org/2000/svg\" version=\"1.1\" viewBox=\"-136 -75 1272 210\" font-family=\"Helvetica, Arial, sans-serif\">
+<rect x=\"-136\" y=\"-75\" width=\"1272\" height=\"210\" fill=\"#ffffff\"/>
+<g id=\"lines\" fill=\"none\" stroke-linejoin=\"round\" stroke-linecap=\"round\" stroke-width=\"12\">
+<path class=\"s0 l0\" d=\"M 0 0 L 1000 0\" stroke=\"#e6194b\"><title>A</title></path>
+</g>
+<g id=\"stations\" fill=\"none\" stroke-linejoin=\"round\" stroke-linecap=\"round\">
+<g class=\"n0 l0\"><title>X</title>
+<path d=\"M 0 0 L 0 0\" stroke=\"#000000\" stroke-width=\"20\"/>
+<path d=\"M 0 0 L 0 0\" stroke=\"#ffffff\" stroke-width=\"12\"/>
+</g>
+<g class=\"n1 l0\"><title>Y</title>
+<path d=\"M 1000 0 L 1000 0\" stroke=\"#000000\" stroke-width=\"20\"/>
+<path d=\"M 1000 0 L 1000 0\" stroke=\"#ffffff\" stroke-width=\"12\"/>
+</g>
+</g>
+<g id=\"names\" font-size=\"30\" fill=\"#000000\">
+<text x=\"-16\" y=\"9\" text-anchor=\"end\">X<tspan dx=\"9\" fill=\"#e6194b\" font-weight=\"bold\">A</tspan></text>
+<text x=\"1016\" y=\"9\">Y<tspan dx=\"9\" fill=\"#e6194b\" font-weight=\"bold\">A</tspan></text>
+</g>
+<g id=\"legend\" font-size=\"30\" fill=\"#000000\">
+<path d=\"M -76 60 L -16 60\" stroke=\"#e6194b\" stroke-width=\"12\"/>
+<text x=\"14\" y=\"69\">A</text>
+</g>
+</svg>
+";
 
 #[test]
 fn a_map_is_made_with_the_page_of_its_poster(rt: HostRuntime) -> Result<(), Fail> {
@@ -44,36 +44,10 @@ fn a_map_is_made_with_the_page_of_its_poster(rt: HostRuntime) -> Result<(), Fail
     let map = sinks.written(&at(alloc, "map.svg")?).unwrap_or(b"");
     assert_eq!(rt; map, SMALLEST_MAP.as_bytes());
     let due = page_of(alloc, SMALLEST_POSTER.as_bytes())?;
-    let page = sinks.written(&page(alloc)?).unwrap_or(b"");
+    let page = sinks.written(&at(alloc, "map.html")?).unwrap_or(b"");
     assert_eq!(rt; page, due.as_slice());
     let end = format!(in alloc; "{SMALLEST_POSTER}\n<!-- the picture ends here -->\n")?;
     assert!(rt; page.ends_with(end.as_str().as_bytes()));
-    Ok(())
-}
-
-#[test]
-fn a_map_that_is_not_there_is_named(rt: HostRuntime) -> Result<(), Fail> {
-    let alloc = rt.alloc();
-    let words = words_of(alloc, "page map.svg map.html")?;
-    let mut files = SteadyFiles::with(Vec::new(alloc));
-    let mut sinks = SteadySinks::none(alloc);
-    assert_eq!(rt; run_on(alloc, &words, &mut files, &mut sinks), 13);
-    let held = sinks.written(&Target::Said).unwrap_or(b"");
-    assert_eq!(rt; held, b"missing: map.svg\n".as_slice());
-    assert_eq!(rt; sinks.written(&page(alloc)?), None);
-    Ok(())
-}
-
-#[test]
-fn the_first_trial_tells_its_numbers(rt: HostRuntime) -> Result<(), Fail> {
-    let alloc = rt.alloc();
-    let words = words_of(alloc, "trial 0")?;
-    let mut files = SteadyFiles::with(Vec::new(alloc));
-    let mut sinks = SteadySinks::none(alloc);
-    assert_eq!(rt; run_on(alloc, &words, &mut files, &mut sinks), 0);
-    let held = sinks.written(&Target::Said).unwrap_or(b"");
-    let said = b"trial 0: nodes 9 segments 7 lines 2 cost 0 branches 0\n";
-    assert_eq!(rt; held, said.as_slice());
     Ok(())
 }
 
