@@ -1,13 +1,18 @@
-use Rattle.std.proofs.Common.{◌≡◌, ◌∙◌, List, All, Contains, ap, sym, subst, Ok}
+use Rattle.std.proofs.Common.{◌≡◌, ◌∙◌, List, All, Contains, ap, sym, subst, Ok, Err}
 use Rattle.std.specs.List.{AllByRecursion}
+use Rattle.std.proofs.lemmas.Result.{err_from_is_err_and}
 use Rattle.order_values.specs.declared.rule.Rule.{Rule}
 use Rattle.order_model.specs.declared.problem.ProblemParts.{ProblemParts}
 use Rattle.order_model.specs.Costs.{AreOrders}
 use Rattle.order_proof.specs.Plain.{PlainPart}
 use Rattle.order_proof.specs.Trees.{IsPartTree}
 use Rattle.order_rules.specs.Lifting.{lifted_all}
-use Rattle.graph_maps.specs.Keeping.{finished_of}
+use Rattle.graph_maps.specs.Problems.{untangled_problem}
+use Rattle.graph_maps.specs.Keeping.{finished_of, HoldsFinished}
 use Rattle.graph_maps.specs.Solving.{solve_outcome}
+use Rattle.graph_maps.specs.declared.best_orders.BestOrders.{BestOrders}
+use Rattle.graph_maps.specs.declared.solution.Solution.{Solution}
+use Rattle.graph_maps.proofs.KeepLemmas.{same_held}
 use Rattle.graph_maps.proofs.MadeLemmas.{best_by}
 use Rattle.graph_maps.proofs.UntangledLemmas.{lifted_are}
 use Rattle.graph_maps.proofs.best_orders.best_orders.Goals as goal
@@ -37,3 +42,13 @@ returns-clause-orders g c =
 pub returns-clause-finished : goal.returns-clause-finished
 returns-clause-finished g c =
     subst (λ (q : ProblemParts). All (Contains c.solve_parts.new.kept) (finished_of c.args.plan q)) c.in_ok-rules.ensures.problem c.in_ok-solution.ensures.finished
+
+pub returns-in_err-solution-clause-finished : goal.returns-in_err-solution-clause-finished
+returns-in_err-solution-clause-finished g c =
+    let e = c.in_err-solution.field-0.0 in
+    let held = c.solve_parts.new.kept in
+    let here = subst (λ (q : ProblemParts). HoldsFinished {X = Solution} (Err e) (finished_of c.args.plan q) held)
+    c.in_ok-rules.ensures.problem c.in_err-solution.ensures.finished in
+    let same = err_from_is_err_and c.from_residual-in_err-solution.result c.from_residual-in_err-solution.ensures.1 in
+    rw (same.1, same.2)
+    (same_held Solution BestOrders e (finished_of c.args.plan (untangled_problem c.args.problem)) held here)
