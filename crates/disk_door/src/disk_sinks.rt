@@ -11,6 +11,7 @@ use crate::most_bytes::{is_full, most_bytes};
 use crate::outputs::{Output, output_at};
 use crate::placing::{place_all, remove_all};
 use crate::retries::write_once;
+use crate::streams::Stream;
 use files_door::{Sinks, Stop, Target};
 use map_base::{NoMemory, Progress, Text};
 use std::alloc::Global;
@@ -233,7 +234,8 @@ impl<R: rt::Files + Print> DiskSinks<R> {
             Place::Nowhere => unreachable!(),
             Place::Said => {
                 hide_line(&self.watched);
-                say(&self.rt, piece, self.most)
+                let said = io::writer(&self.rt);
+                write_once(&mut Stream::output_within(&self.rt, said, self.most), piece)
             }
             Place::Draft(_, draft) => draft.write(piece, self.most),
             Place::Straight(_, file) => {
@@ -259,21 +261,6 @@ fn hide_line(watched: &Option<Arc<Progress, Global>>) {
     if let Some(progress) = watched {
         progress.hide();
     }
-}
-
-/// Writes once to standard output, unless that is a file of the disk and as long as it may be.
-fn say<R: rt::Files + Print>(rt: &R, piece: &[u8], most: u64) -> io::Result<usize>
-    ensures bound { IfOk result (λ count. count ≤ length piece.now) }
-{
-    if most < u64::MAX {
-        match rt.metadata("/dev/stdout") {
-            Ok(found) if is_full(&found, most) => {
-                return Err(io::Error::from(ErrorKind::FileTooLarge))
-            }
-            _ => {}
-        }
-    }
-    write_once(&mut io::writer(rt), piece)
 }
 
 /// Sees to it that the bytes of an open file are on the disk, if it is a file of a disk.

@@ -5,14 +5,14 @@
 ghost use Rattle.std.specs.Prelude.{◌≡◌, ◌<◌, ◌⊎◌, false, IsErrOf, OnOk};
 
 use command_words::{VERSION, asks_version, command_of, is_quiet};
-use disk_door::{DiskFiles, DiskLeads, DiskSinks, WriteError};
+use disk_door::{DiskFiles, DiskLeads, DiskSinks, Stream, WriteError};
 use files_door::{Files, Sinks, Stop};
 use map_base::{NoMemory, Progress, Stage, Steps};
 use map_run::run;
 use output_guard::{Clash, clash_of};
 use run_status::Status;
 use std::alloc::Global;
-use std::io::IsTerminal;
+use std::io::{IsTerminal, Stderr, Stdout, Write};
 use std::marker::Brand;
 use std::process::ExitCode;
 use std::sync::Arc;
@@ -38,7 +38,7 @@ fn run_words(rt: &HostRuntime, words: &[String]) -> Status {
 
 /// Prints the version of the program.
 fn tell_version(rt: &HostRuntime) -> Status {
-    match println!(rt; "octimap {VERSION}") {
+    match writeln!(output(rt), "octimap {VERSION}") {
         Ok(()) => Status::Done,
         Err(_) => Status::WriteFault,
     }
@@ -64,7 +64,7 @@ fn run_counted<L: Ledger>(rt: &HostRuntime, words: &[String], blank: Blank) -> S
         Ok(None) => run_on_disk::<L>(rt, words, blank),
         Ok(Some(clash)) => refuse_clash(rt, &clash),
         Err(NoMemory) => {
-            let _not_shown = println!(rt; "no memory");
+            let _not_shown = writeln!(output(rt), "no memory");
             Status::NoMemory
         }
     }
@@ -182,7 +182,8 @@ fn refuse_clash(rt: &HostRuntime, clash: &Clash) -> Status
 {
     let output = clash.output.as_str();
     let other = clash.other.as_str();
-    let _not_shown = println!(rt;
+    let _not_shown = writeln!(
+        output(rt),
         "error: the output {output} is one file with {other}\n\nFor more information, try '--help'."
     );
     Status::Usage
@@ -192,7 +193,7 @@ fn refuse_clash(rt: &HostRuntime, clash: &Clash) -> Status
 #[inline(never)]
 fn say_more(rt: &HostRuntime, words: &[String], status: &Status, fault: Option<WriteError<'_>>) {
     if let Ok(lines) = message(rt, words, status, fault) {
-        let _not_shown = eprint!(rt; "{lines}");
+        let _not_shown = write!(errors(rt), "{lines}");
     }
 }
 
@@ -215,7 +216,7 @@ fn tell_stage(rt: &HostRuntime, progress: &Progress) -> io::Result<()> {
         Stage::Orders => return tell_part(rt, progress),
         Stage::Working | Stage::Ended => return Ok(()),
     };
-    eprint!(rt; "octimap: memory ended while {stage}\n")
+    writeln!(errors(rt), "octimap: memory ended while {stage}")
 }
 
 /// Says which part of the line orders is searched.
@@ -223,8 +224,9 @@ fn tell_part(rt: &HostRuntime, progress: &Progress) -> io::Result<()> {
     let (part, parts) = progress.part();
     let shown = part.saturating_add(1);
     let branches = progress.branches();
-    eprint!(rt;
-        "octimap: memory ended in part {shown} of {parts} of the line orders, at branch node {branches}\n"
+    writeln!(
+        errors(rt),
+        "octimap: memory ended in part {shown} of {parts} of the line orders, at branch node {branches}"
     )
 }
 
@@ -233,6 +235,16 @@ fn unread_words(rt: &HostRuntime, error: &io::Error) -> Status {
     if error.kind() == io::ErrorKind::OutOfMemory {
         return Status::NoMemory;
     }
-    let _not_shown = println!(rt; "octimap: a word of the command line is not UTF-8");
+    let _not_shown = writeln!(output(rt), "octimap: a word of the command line is not UTF-8");
     Status::Usage
+}
+
+/// Standard output.
+fn output(rt: &HostRuntime) -> Stream<'_, HostRuntime, Stdout> {
+    Stream::output(rt, rt.stdout())
+}
+
+/// Standard error.
+fn errors(rt: &HostRuntime) -> Stream<'_, HostRuntime, Stderr> {
+    Stream::errors(rt, rt.stderr())
 }
