@@ -55,6 +55,8 @@ def main():
                     fault = judge.fault(status, said, stand, (judge.status, 9))
                     if not fault and status == 9 and not begins(said, judge.said, b"no memory\n"):
                         fault = f"standard output {said[:60]!r}"
+                    if not fault and how == "once" and status == 9 and not said.endswith(b"no memory\n"):
+                        fault = "the line `no memory` is not whole"
                     ended[status] = ended.get(status, 0) + 1
                     if fault:
                         faults.append(f"{how} {number}: {fault}")
