@@ -2,7 +2,7 @@
 
 use map_base::{LineId, Sequence};
 use octi_grid::Walk;
-use order_model::Orders;
+use order_values::Orders;
 use order_proof::Proof;
 
 /// What shows that a map is a best one of its line graph: the walk and the order of each segment, what the orders cost,

@@ -15,7 +15,7 @@ use crate::counts::Counts;
 use crate::reading::{read_counts, read_version};
 use decimal_text::{BadText, Stop, bad_text};
 use map_base::Sequence;
-use order_model::Orders;
+use order_values::Orders;
 use order_proof::{Proof, read_proof};
 use std::alloc::Global;
 

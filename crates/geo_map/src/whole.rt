@@ -10,7 +10,7 @@ use crate::plane::PlaneDrawing;
 use crate::style::plane_style;
 use graph_core::LineGraph;
 use map_base::{NoMemory, Point, Sequence};
-use order_model::Orders;
+use order_values::Orders;
 use std::alloc::Global;
 use svg_writer::{Names, picture_of};
 

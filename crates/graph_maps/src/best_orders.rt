@@ -17,11 +17,11 @@ use crate::solving::solve_parts;
 use kept_trees::{Kept, SearchPlan};
 use map_base::{NoMemory, Sequence, Steps};
 use map_faults::MakeFault;
-use order_model::{Orders, Problem, cost_by_tables};
+use order_model::{Problem, cost_by_tables};
 use order_proof::Proof;
 use order_rules::lift;
 use order_untangle::untangle;
-use order_values::Rule;
+use order_values::{Orders, Rule};
 use std::alloc::Global;
 use std::sync::ledger::Ledger;
 

@@ -1,7 +1,7 @@
 //! A certificate that is accepted.
 
 use octi_grid::Drawing;
-use order_model::Orders;
+use order_values::Orders;
 
 /// What a certificate that is accepted proves of its line orders.
 #[derive(Clone, Copy, Debug, PartialEq, Eq)]

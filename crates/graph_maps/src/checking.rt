@@ -24,9 +24,10 @@ use map_faults::{CheckFault, CheckItem};
 use map_method::Claim;
 use octi_grid::{Drawing, check_drawing};
 use order_check::{check_bound, check_proof};
-use order_model::{Orders, Problem, cost_by_tables};
+use order_model::{Problem, cost_by_tables};
 use order_proof::Proof;
 use order_terms::terms_of;
+use order_values::Orders;
 use std::alloc::Global;
 use svg_writer::{Names, picture};
 

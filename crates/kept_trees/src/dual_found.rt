@@ -1,7 +1,6 @@
 //! What the search finds.
 
-use order_model::Orders;
-use order_values::DualTree;
+use order_values::{DualTree, Orders};
 
 /// What a search by dual prices finds in a part by itself.
 #[derive(Debug, Drop)]

@@ -20,8 +20,8 @@ use crate::walked::{WalkedTree, collapsed, listed};
 use dual_orders::{Answers, Part, Solver, first_incumbent};
 use dual_rounds::{LineOrder, orders_of};
 use map_base::{LineId, NoMemory, Sequence, Steps};
-use order_model::{Orders, Problem};
-use order_values::DualTree;
+use order_model::Problem;
+use order_values::{DualTree, Orders};
 use std::alloc::Global;
 use std::sync::ledger::Ledger;
 

@@ -9,7 +9,7 @@ ghost use Rattle.kept_trees.specs.Results.{result_found, renumbered_result};
 use crate::found_part::FoundPart;
 use crate::tree_numbers::renumbered_tree;
 use map_base::{LineId, NoMemory, SegId, Sequence};
-use order_model::Orders;
+use order_values::Orders;
 use std::alloc::Global;
 
 /// What was found for the part by itself, with the numbers that its segments and its terms have in the problem.

@@ -5,7 +5,7 @@ ghost use Rattle.order_proof.specs.Plain.{plain_part_tree};
 ghost use Rattle.kept_trees.specs.Renumbered.{is_by_pairs};
 
 use map_method::Claim;
-use order_model::Orders;
+use order_values::Orders;
 use order_proof::PartTree;
 
 /// What is found of a part.

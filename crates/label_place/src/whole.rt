@@ -14,7 +14,7 @@ use graph_core::LineGraph;
 use line_offsets::Corner;
 use map_base::{NoMemory, NodeId};
 use octi_grid::Drawing;
-use order_model::Orders;
+use order_values::Orders;
 use std::alloc::Global;
 use svg_writer::{Bounds, Names, bounds_of, picture_with};
 

@@ -16,8 +16,9 @@ use crate::refusal::{ProofItem, ProofStop};
 use crate::rules::after_rules;
 use crate::total::target_sum;
 use map_base::{SegId, Sequence};
-use order_model::{Orders, Prefix, Problem, cost_by_tables, numbers_of, parts_of, terms_by_part};
+use order_model::{Prefix, Problem, cost_by_tables, numbers_of, parts_of, terms_by_part};
 use order_proof::{Part, Proof};
+use order_values::Orders;
 use std::alloc::Global;
 
 /// Whether a proof shows that no orders of the problem cost less than these. The items are checked in order: the rules,

@@ -3,10 +3,10 @@
 ghost use Rattle.std.specs.Prelude.{◌≡◌, ℕ, ◌<◌, ◌≤◌, length, sum_by, All};
 ghost use Rattle.order_model.specs.Costs.{comes_before, are_these, are_neighbours, is_met_on, seg_of, other_of, weight_of, term_cost, cost_of, IsReadable, AreOrders};
 
-use crate::orders::Orders;
 use crate::problem::Problem;
 use crate::term::Term;
 use map_base::{LineId, SegId, Sequence};
+use order_values::Orders;
 
 /// What the orders cost: the sum of the weights of all terms that cost something. The orders have one list for each
 /// segment of the problem, with its lines in some order.

@@ -8,7 +8,6 @@
 
 mod costs;
 mod labels;
-mod orders;
 mod part_numbers;
 mod part_terms;
 mod parts;
@@ -21,7 +20,6 @@ mod table_costs;
 mod term;
 
 pub use costs::{are_neighbours, comes_before, cost, ends_of, is_met_on, weight_of};
-pub use orders::Orders;
 pub use part_numbers::numbers_of;
 pub use part_terms::terms_by_part;
 pub use parts::{a_problem_has_one_list_of_parts, parts_of};

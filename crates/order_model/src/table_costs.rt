@@ -6,12 +6,12 @@ ghost use Rattle.order_model.specs.Costs.{cost_of, AreOrders};
 ghost use Rattle.order_model.specs.Places.{HavePlaces, place_by, are_adjacent, before_by, beside_by, is_met_by, cost_by, tables_of};
 
 use crate::costs::weight_of;
-use crate::orders::Orders;
 use crate::places::places_of;
 use crate::problem::Problem;
 use crate::ranks::rank;
 use crate::term::Term;
 use map_base::{LineId, NoMemory, SegId, Sequence};
+use order_values::Orders;
 use std::alloc::Global;
 
 /// What `cost` gives, by tables of the places of lines, which take memory: for problems with long lists. Errs where the

@@ -10,8 +10,9 @@ ghost use Rattle.order_model.specs.Problems.{choices, IsOn, IsPair, IsTerm, IsWe
 ghost use Rattle.order_rules.specs.Dividing.{is_rising};
 
 use map_base::{LineId, SegId, Sequence};
-use order_model::{Orders, Problem, ProblemParts, Term};
+use order_model::{Problem, ProblemParts, Term};
 use order_rules::{has_line, lines_on};
+use order_values::Orders;
 use std::alloc::{AllocError, Global};
 use std::test::Fail;
 

@@ -6,8 +6,7 @@ ghost use Rattle.order_rules.specs.Lifting.{lifted, lifted_all};
 
 use crate::terms::lines_on;
 use map_base::{LineId, NoMemory, SegId, Sequence};
-use order_model::Orders;
-use order_values::Rule;
+use order_values::{Orders, Rule};
 use std::alloc::Global;
 
 /// The orders of a problem that these orders of the problem after the rules stand for. Where the rules apply in turn they

@@ -1,7 +1,7 @@
 //! What a search finds, and why it stops.
 
 use map_base::{Limit, NoMemory};
-use order_model::Orders;
+use order_values::Orders;
 use order_proof::Tree;
 use std::alloc::{AllocError, AllocFailed};
 

@@ -6,7 +6,7 @@ use graph_json::read_graph;
 use label_place::labelled;
 use map_base::{LineId, Sequence};
 use octi_grid::Drawing;
-use order_model::Orders;
+use order_values::Orders;
 use poster_picture::poster;
 use std::alloc::{AllocError, Global};
 use std::test::Fail;

@@ -10,7 +10,7 @@ use graph_core::LineGraph;
 use line_offsets::{Corner, drawn_at, path_end_at, path_start_at};
 use map_base::{LineId, NoMemory, NodeId, Sequence};
 use octi_grid::{Drawing, GridPoint, Walk};
-use order_model::Orders;
+use order_values::Orders;
 use poster_graph::Served;
 use svg_writer::{Names, ends_of, gauge, order_of, place_in};
 

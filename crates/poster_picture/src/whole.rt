@@ -24,7 +24,7 @@ use eight_sides::Frame;
 use graph_core::LineGraph;
 use map_base::{LineId, NoMemory, Sequence};
 use octi_grid::Drawing;
-use order_model::Orders;
+use order_values::Orders;
 use poster_graph::{Served, Texts, lines_shown, plan_of, texts_of, widest};
 use poster_layout::{frame_beside, frame_with, layout_of, legend_of};
 use poster_plan::{Legend, Plan, Printed};

@@ -8,7 +8,7 @@ use crate::names::Names;
 use crate::style::Style;
 use graph_core::LineGraph;
 use map_base::{LineId, NoMemory, NodeId, SegId};
-use order_model::Orders;
+use order_values::Orders;
 
 /// A line graph with what is drawn of it, and how that looks.
 #[derive(Drop)]

@@ -19,7 +19,7 @@ use graph_core::LineGraph;
 use line_offsets::Corner;
 use map_base::NoMemory;
 use octi_grid::Drawing;
-use order_model::Orders;
+use order_values::Orders;
 use std::alloc::Global;
 
 /// The picture of a line graph as SVG 1.1 in a style, with a drawing, an order for each of its segments, and names that
