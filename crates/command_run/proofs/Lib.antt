@@ -1,3 +1,4 @@
 pub mod WorkLemmas
 pub mod ActLemmas
 pub mod HeldLemmas
+pub mod PieceLemmas

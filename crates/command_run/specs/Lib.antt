@@ -3,3 +3,4 @@ pub mod Told
 pub mod Writing
 pub mod Delivered
 pub mod Held
+pub mod Pieces

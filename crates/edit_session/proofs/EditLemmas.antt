@@ -8,7 +8,7 @@ use Rattle.files_door.specs.Fault.{HasCause}
 use Rattle.files_door.specs.Targets.{Written}
 use Rattle.files_door.specs.Acts.{puts, Does}
 use Rattle.files_door.proofs.Acts.{Does-nil}
-use Rattle.output_pieces.specs.Pieces.{DoesUpTo}
+use Rattle.command_run.specs.Pieces.{DoesUpTo}
 use Rattle.map_edits.specs.declared.edit.Edit.{Edit}
 use Rattle.map_edits.specs.declared.fault.EditStop.{EditStop}
 use Rattle.map_edits.specs.declared.fault.EditStop.TheVariants as stop

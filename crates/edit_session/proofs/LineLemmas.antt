@@ -10,8 +10,8 @@ use Rattle.files_door.specs.declared.target.Target.{Target}
 use Rattle.files_door.specs.Targets.{Written}
 use Rattle.files_door.specs.Acts.{Act, puts, Does}
 use Rattle.files_door.proofs.Acts.{Does-append, Does-nil, puts-append}
-use Rattle.output_pieces.specs.Pieces.{DoesUpTo}
-use Rattle.output_pieces.proofs.PieceLemmas.{due_after}
+use Rattle.command_run.specs.Pieces.{DoesUpTo}
+use Rattle.command_run.proofs.PieceLemmas.{due_after}
 use Rattle.map_base.specs.Settings.{Choices}
 use Rattle.map_method.specs.Methods.{MethodChoices}
 use Rattle.transit_feed.specs.Feeds.{Feed}

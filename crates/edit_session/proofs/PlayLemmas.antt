@@ -12,9 +12,9 @@ use Rattle.files_door.specs.Targets.{Written}
 use Rattle.files_door.specs.Acts.{Act, begun, puts, Does}
 use Rattle.files_door.proofs.Acts.{Does-append, Does-nil}
 use Rattle.command_run.specs.Delivered.{outputs_acts, target_acts}
-use Rattle.output_pieces.specs.Pieces.{DoesUpTo}
+use Rattle.command_run.specs.Pieces.{DoesUpTo}
 use Rattle.command_run.specs.Work.{Work, ends, ◌>>=◌}
-use Rattle.output_pieces.proofs.PieceLemmas.{delivered_failed}
+use Rattle.command_run.proofs.PieceLemmas.{delivered_failed}
 use Rattle.run_status.specs.declared.input.Input.{Input}
 use Rattle.run_status.specs.declared.input.Input.TheVariants as input
 use Rattle.run_status.specs.declared.refusal.Refusal.{Refusal}

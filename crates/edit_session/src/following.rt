@@ -3,7 +3,7 @@
 ghost use Rattle.std.specs.Prelude.{◌≡◌, ◌≤◌, ◌<◌, ◌+◌, ◌^◌, All, IsSome, IfOk, IfErr, OnOk};
 ghost use Rattle.files_door.specs.Fault.{HasCause};
 ghost use Rattle.files_door.specs.Acts.{puts};
-ghost use Rattle.output_pieces.specs.Pieces.{DoesUpTo};
+ghost use Rattle.command_run.specs.Pieces.{DoesUpTo};
 ghost use Rattle.map_edits.specs.Grammar.{script_line_in};
 ghost use Rattle.edit_session.specs.Scripts.{followed_in, draws_in, branches_to_follow};
 ghost use Rattle.edit_session.specs.Sessions.{begun, draw_outcome, branches_to_draw};
@@ -16,7 +16,7 @@ use crate::session::Session;
 use files_door::{Sinks, Stop};
 use map_base::Steps;
 use map_edits::{Edit, EditStop, ScriptLine, next_line, read_script_line};
-use output_pieces::write_piece;
+use command_run::write_piece;
 use std::alloc::Global;
 use std::sync::ledger::Ledger;
 

@@ -3,7 +3,7 @@
 ghost use Rattle.std.specs.Prelude.{◌≡◌, ◌≤◌, IfOk};
 ghost use Rattle.files_door.specs.Fault.{HasCause, Rose};
 ghost use Rattle.command_run.specs.Delivered.{outputs_acts};
-ghost use Rattle.output_pieces.specs.Pieces.{DoesUpTo};
+ghost use Rattle.command_run.specs.Pieces.{DoesUpTo};
 ghost use Rattle.edit_session.specs.Sessions.{begun};
 ghost use Rattle.command_inputs.specs.Inputs.{input_at, inputs_by};
 ghost use Rattle.run_status.specs.Following.{Follows};

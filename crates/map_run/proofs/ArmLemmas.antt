@@ -11,7 +11,7 @@ use Rattle.command_run.specs.declared.delivery.Ending.TheVariants.{Whole, CutSho
 use Rattle.command_run.specs.Delivered.{outputs_acts, IsSaid, IsDelivered}
 use Rattle.command_run.specs.Work.{Work, ends}
 use Rattle.command_run.proofs.ActLemmas.{delivered_whole}
-use Rattle.output_pieces.proofs.PieceLemmas.{delivered_left}
+use Rattle.command_run.proofs.PieceLemmas.{delivered_left}
 use Rattle.command_words.specs.Asked.{Asked, stations, graph, export, imported, make, improve, check, depict, session, trial, page}
 use Rattle.run_status.specs.declared.input.Input.{Input}
 use Rattle.run_status.specs.declared.refusal.Refusal.{Refusal}

@@ -4,7 +4,7 @@ use Rattle.files_door.specs.declared.stop.Stop.TheVariants.{Failed, NoMemory}
 use Rattle.files_door.specs.declared.target.Target.TheVariants.{Said}
 use Rattle.files_door.specs.Targets.{Written}
 use Rattle.files_door.specs.Acts.{puts}
-use Rattle.output_pieces.specs.Pieces.{DoesUpTo}
+use Rattle.command_run.specs.Pieces.{DoesUpTo}
 
 -- what standard output holds
 abbrev holds : ℕ → Written

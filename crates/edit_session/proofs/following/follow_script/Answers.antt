@@ -2,7 +2,7 @@ use Rattle.std.proofs.Common.{Option, Err, refl, subst, ◌∙◌, arith}
 use Rattle.std.proofs.lemmas.Result.{err_from_is_err_and}
 use Rattle.files_door.specs.declared.target.Target.{Target}
 use Rattle.files_door.specs.Acts.{puts, Does}
-use Rattle.output_pieces.specs.Pieces.{DoesUpTo}
+use Rattle.command_run.specs.Pieces.{DoesUpTo}
 use Rattle.map_edits.specs.Grammar.{script_line_in}
 use Rattle.edit_session.specs.declared.following.LineEnd.{LineEnd}
 use Rattle.edit_session.specs.Stages.{EndsLine, line_text, stage_of}

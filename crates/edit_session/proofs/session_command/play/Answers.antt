@@ -1,7 +1,7 @@
 use Rattle.std.proofs.Common.{◌≡◌, ℕ, All, Option, IfOk, OnOk, subst}
 use Rattle.std.proofs.lemmas.Result.{err_from_is_err_and}
 use Rattle.files_door.specs.Acts.{puts}
-use Rattle.output_pieces.specs.Pieces.{DoesUpTo}
+use Rattle.command_run.specs.Pieces.{DoesUpTo}
 use Rattle.edit_session.specs.Scripts.{draws_in, followed_in}
 use Rattle.edit_session.specs.Sessions.{SessionState}
 use Rattle.edit_session.specs.DrawTexts.{draws_text}

@@ -8,7 +8,7 @@ use Rattle.run_status.proofs.FollowLemmas.{Told}
 use Rattle.command_inputs.specs.Inputs.{input_at, inputs_by}
 use Rattle.edit_session.specs.declared.stop.ScriptStop.TheVariants as script_stop
 use Rattle.command_run.specs.Delivered.{outputs_acts}
-use Rattle.output_pieces.specs.Pieces.{DoesUpTo}
+use Rattle.command_run.specs.Pieces.{DoesUpTo}
 use Rattle.edit_session.specs.SessionWorks.{played_by, script_work}
 use Rattle.edit_session.specs.Promises.{IsScript, KeepDraws}
 use Rattle.edit_session.specs.Playing.{stopped_by}

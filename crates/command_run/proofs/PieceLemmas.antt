@@ -14,7 +14,7 @@ use Rattle.command_run.specs.declared.delivery.Ending.TheVariants.{CutShort, Out
 use Rattle.command_run.specs.Delivered.{outputs_acts, line_acts, no_memory_line, IsDelivered}
 use Rattle.command_run.specs.Writing.{DoesSome}
 use Rattle.command_run.proofs.ActLemmas.{front_after}
-use Rattle.output_pieces.specs.Pieces.{DoesUpTo}
+use Rattle.command_run.specs.Pieces.{DoesUpTo}
 
 -- a beginning of a piece
 pub piece_front : (current : Option Target) (piece : List ℕ) (n : ℕ) (old new : Option Written) → IsSome current → n < length piece → Does (puts current (take n piece)) old new → (m : ℕ) × (m < length (puts current piece)) × Does (take m (puts current piece)) old new

@@ -1,5 +1,5 @@
-use Rattle.output_pieces.proofs.PieceLemmas.{piece_front}
-use Rattle.output_pieces.proofs.pieces.write_piece.Goals as goal
+use Rattle.command_run.proofs.PieceLemmas.{piece_front}
+use Rattle.command_run.proofs.pieces.write_piece.Goals as goal
 
 pub returns-in-Err-Fault-clause-done : goal.returns-in-Err-Fault-clause-done
 returns-in-Err-Fault-clause-done g c =
