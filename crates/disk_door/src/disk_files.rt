@@ -13,7 +13,7 @@ use std::sync::Arc;
 use std::sync::atomic::{AtomicBool, Ordering};
 
 /// The files of the disk. Nothing is told of what they hold. The count rises at each error of the system
-/// that is answered as a failure.
+/// that is answered as a failure. A file is closed where its end is read, so that no output finds it open.
 #[derive(Drop)]
 pub struct DiskFiles<R: rt::Files> {
     rt: R,
@@ -32,8 +32,8 @@ impl<R: rt::Files> DiskFiles<R> {
         DiskFiles::watched(rt, None)
     }
 
-    /// The same; where somebody watches the run, each read tells how far it is, and where a run does not tell what it is
-    /// at, that it reads, from the beginning of each file to its end.
+    /// The files that `rt` reaches; none is begun, and the count is 0. Where somebody watches the run, each read tells how
+    /// far it is, and where a run does not tell what it is at, that it reads, from the beginning of each file to its end.
     pub fn watched(rt: R, watched: Option<Arc<Progress, Global>>) -> DiskFiles<R>
         ensures none_begun { ⟦<DiskFiles<R> as Files>⟧.rest result ≡ Some [] }
         ensures count { ⟦<DiskFiles<R> as Files>⟧.faults result ≡ 0 }
@@ -103,6 +103,9 @@ impl<R: rt::Files> Files for DiskFiles<R> {
         match read_once(file, into) {
             Ok(count) => {
                 self.tell_taken(count);
+                if count == 0 && !into.is_empty() {
+                    self.begun = None;
+                }
                 Ok(count)
             }
             Err(error) => {

@@ -71,8 +71,8 @@ impl<R: rt::Files + Print> DiskSinks<R> {
         DiskSinks::watched(rt, alloc, None)
     }
 
-    /// The same; where somebody watches the run, the line that tells how far it is leaves the terminal before anything is
-    /// written that may stand there.
+    /// The targets that `rt` reaches; none is current, and the count is 0. Where somebody watches the run, the line that
+    /// tells how far it is leaves the terminal before anything is written that may stand there.
     pub fn watched(rt: R, alloc: Global, watched: Option<Arc<Progress, Global>>) -> DiskSinks<R>
         ensures nowhere { ⟦<DiskSinks<R> as Sinks>⟧.current result ≡ None }
         ensures count { ⟦<DiskSinks<R> as Sinks>⟧.faults result ≡ 0 }
