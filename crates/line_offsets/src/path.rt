@@ -20,14 +20,14 @@ pub fn line_path(alloc: Global, walk: &Walk, k: i32) -> Result<Vec<Corner>, NoMe
     Ok(path)
 }
 
-/// The same, in place of what `path` held.
+/// Puts the path of a line beside a walk into `path`, in place of what it held.
 pub fn put_path(path: &mut Vec<Corner>, walk: &Walk, k: i32) -> Result<(), NoMemory>
     ensures { OnOk result (path.new.items ≡ line_path walk.now k) }
 {
     put_path_at(path, 100, walk, k)
 }
 
-/// The same where one grid step is `pitch` units.
+/// Puts the path of a line beside a walk into `path`, in place of what it held, one grid step being `pitch` units.
 pub fn put_path_at(path: &mut Vec<Corner>, pitch: u32, walk: &Walk, k: i32) -> Result<(), NoMemory>
     requires { pitch ≤ 200 }
     ensures { OnOk result (path.new.items ≡ line_path_at pitch walk.now k) }
@@ -50,7 +50,7 @@ pub fn path_start(walk: &Walk, k: i32) -> Corner
     path_start_at(100, walk, k)
 }
 
-/// The same where one grid step is `pitch` units.
+/// Where the path of a line starts, one grid step being `pitch` units.
 pub fn path_start_at(pitch: u32, walk: &Walk, k: i32) -> Corner
     requires { pitch ≤ 200 }
     ensures { result ≡ path_start_at pitch walk.now k }
@@ -65,7 +65,7 @@ pub fn path_end(walk: &Walk, k: i32) -> Corner
     path_end_at(100, walk, k)
 }
 
-/// The same where one grid step is `pitch` units.
+/// Where the path of a line ends, one grid step being `pitch` units.
 pub fn path_end_at(pitch: u32, walk: &Walk, k: i32) -> Corner
     requires { pitch ≤ 200 }
     ensures { result ≡ path_end_at pitch walk.now k }
