@@ -95,7 +95,7 @@ fn size(step: Step) -> u64
     10 * u64::from(tenth(step))
 }
 
-/// Half of it.
+/// Half of the size of type.
 fn half_size(step: Step) -> u64
     ensures value { result ≡ 5 * tenth step }
     ensures small { result ≤ 15 }
