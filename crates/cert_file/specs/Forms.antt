@@ -43,7 +43,7 @@ spoken word form line = if bytes_eq line.word word then form line.numbers else N
 abbrev pub with_word : {A : Type 0} → List ℕ → (List ℤ → Option A) → List (List ℕ) → Option A
 with_word word form words = option_and_then (spoken word form) (numbered words)
 
--- the same of the line at the front of a text, and what stands behind it
+-- what the numbers of the line at the front of a text say, where it has this word, and what stands behind the line
 unfoldable pub spoken_front : {A : Type 0} → List ℕ → (List ℤ → Option A) → List ℕ → Option (A × List ℕ)
 spoken_front word form text = option_and_then (λ x. option_map (λ a. (a, x.1)) (spoken word form x.0)) (front numbered text)
 

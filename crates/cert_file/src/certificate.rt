@@ -1,12 +1,12 @@
-//! Certificates: that a picture shows best orders of a line graph.
+//! Certificates: what a picture shows, and what is proved of its line orders.
 
 use map_base::{LineId, Sequence};
 use octi_grid::Walk;
 use order_values::Orders;
 use order_proof::Proof;
 
-/// What shows that a map is a best one of its line graph: the walk and the order of each segment, what the orders cost,
-/// and a proof that no orders cost less.
+/// What shows a map to be one of its line graph: the walk and the order of each segment, what the orders cost, and the
+/// proof of a cost that none is below.
 #[derive(Debug, Drop)]
 pub struct Certificate {
     /// How many nodes the line graph has.
@@ -23,6 +23,6 @@ pub struct Certificate {
     pub orders: Orders,
     /// What the orders cost.
     pub cost: u64,
-    /// Why none cost less.
+    /// The proof of the bound: no orders cost less than the sum of its targets.
     pub proof: Proof,
 }

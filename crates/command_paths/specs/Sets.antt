@@ -26,7 +26,7 @@ sets_from false (word ∷ more) =
 abbrev pub sets_in : List (List ℕ) → List (List ℕ)
 sets_in words = sets_from false words
 
--- the same of the words of the program
+-- the values of `--set` in the words of the program
 abbrev pub sets_of : List (String Global) → List (List ℕ)
 sets_of words = sets_in (map string_bytes words)
 

@@ -158,7 +158,7 @@ asked_else sets name rows =
     else if bytes_eq name (codes "trial") then trial_in rows
     else None
 
--- the same, of all commands
+-- what the matches of the command of this name ask for, with what is set
 unfoldable pub asked_as : List Text → Text → List Row → Option Asked
 asked_as sets name rows =
     if bytes_eq name (codes "map") then make_in Map sets rows

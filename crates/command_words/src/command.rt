@@ -33,7 +33,8 @@ pub enum Command<'a> {
         files: NewFiles<'a>,
         options: Options<'a>,
     },
-    /// The same map after so many moves more at most, and what they made of its drawing.
+    /// The map of the feed in this folder after so many moves more at most, its certificate, and what the moves made of
+    /// its drawing.
     Improve {
         feed: &'a str,
         files: MapFiles<'a>,

@@ -231,7 +231,7 @@ pub(crate) const HTML: &str = "The file that the page is written to";
 
 pub(crate) const NUMBER: &str = "The number of the feed, from 0 to 4294967295";
 
-/// What is said where a map and its certificate are to be one file.
+/// What is said where `map` names one file twice.
 pub(crate) const ONE_MAP: &str = "\
 error: two of SVG, CERT and HTML are one file
 
@@ -240,7 +240,7 @@ Usage: octimap map [OPTIONS] <FEED> <SVG> <CERT>
 For more information, try '--help'.
 ";
 
-/// The same of `make`.
+/// What is said where `make` names one file twice.
 pub(crate) const ONE_FILE: &str = "\
 error: two of SVG, CERT and HTML are one file
 
@@ -249,7 +249,7 @@ Usage: octimap make [OPTIONS] <FEED> <SVG> <CERT>
 For more information, try '--help'.
 ";
 
-/// The same of `improve`.
+/// What is said where `improve` names one file twice.
 pub(crate) const ONE_IMPROVED: &str = "\
 error: SVG and CERT are one file
 
@@ -258,7 +258,7 @@ Usage: octimap improve [OPTIONS] <FEED> <SVG> <CERT> <MOVES>
 For more information, try '--help'.
 ";
 
-/// The same of `import`.
+/// What is said where `import` names one file twice.
 pub(crate) const ONE_IMPORTED: &str = "\
 error: SVG and CERT are one file
 

@@ -30,9 +30,9 @@ abbrev pub along : ℕ → GridPoint → List Dir → ℕ → PlanePoint
 along n p [] t = in_parts n p
 along n p (d ∷ ds) t = if nat_le t n then on_step n p d t else along n (step_from p d) ds (t - n)
 
--- The same of a walk. As t goes from 0 to the walk's length, this goes over all points of the walk whose coordinates are
--- whole in n-th parts, and then stays at its end. Each point of the walk with rational coordinates is one of these for
--- some n, so what holds for each n holds of all of them.
+-- The point t n-th parts of a step past the start of a walk. As t goes from 0 to the walk's length, this goes over all
+-- points of the walk whose coordinates are whole in n-th parts, and then stays at its end. Each point of the walk with
+-- rational coordinates is one of these for some n, so what holds for each n holds of all of them.
 abbrev pub point_at : ℕ → PlainWalk → ℕ → PlanePoint
 point_at n w t = along n w.start w.steps t
 

@@ -1,5 +1,6 @@
-//! What drawings weigh, and what each walk from one point to another weighs at least. A walk weighs what it costs, with its
-//! turns counted nine times; a drawing weighs its walks, and how far its nodes stand from where they first stood.
+//! What drawings weigh, and what each walk from one point to another weighs at least. A walk weighs what it costs and a
+//! multiple of its turns; a drawing weighs its walks, and how far its nodes stand from where they first stood. Moves of
+//! single nodes weigh by `weight_of`, with eight times the turns; other searches by the scale of a `Weighing`.
 #![tactic(auto)]
 
 mod laws;

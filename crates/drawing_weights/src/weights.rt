@@ -27,7 +27,7 @@ pub fn drawing_weight(first: &Drawing, graph: &LineGraph, drawing: &Drawing) -> 
     weight_of(graph, first.walks.as_slice(), drawing.walks.as_slice())
 }
 
-/// The same by the walks of both drawings.
+/// What a drawing weighs, by its walks and those of the first drawing.
 pub fn weight_of(graph: &LineGraph, first: &[Walk], walks: &[Walk]) -> u64
     requires first { IsDrawn graph.now first.now }
     requires first_near { are_near 1904 first.now ≡ true }

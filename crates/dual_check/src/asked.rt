@@ -1,4 +1,4 @@
-//! What is asked of a tree.
+//! A part with its terms, and the target that a tree of settled pairs has to show.
 
 use map_base::SegId;
 use order_model::Problem;

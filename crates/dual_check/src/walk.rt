@@ -45,7 +45,8 @@ pub(crate) fn walk(
     }
 }
 
-/// The same of a fork.
+/// Whether a fork is accepted at a node. Where it is not, the lines on the way to the first node that fails are added
+/// to `way`; where it is, the same pairs are settled as before.
 #[cycle(walk)]
 fn walk_fork(
     asked: &Asked,
@@ -86,7 +87,9 @@ fn walk_fork(
     walk_case(asked, node, solver, way, behind, second)
 }
 
-/// The same of one case of a fork, with its pair settled besides.
+/// Whether one case of a fork is accepted at a node, with its pair settled besides. Where it is not, the first line of
+/// the pair and those on the way to the first node that fails are added to `way`; where it is, the same pairs are
+/// settled as before.
 #[cycle(walk)]
 fn walk_case(
     asked: &Asked,

@@ -106,7 +106,8 @@ fn renew_all(
     }
 }
 
-/// The same on one segment.
+/// Puts in place on one segment the order that answers prices, where it may be known that the one at hand answers
+/// earlier ones.
 fn renew(
     part: &Part,
     solver: &mut Solver,

@@ -47,7 +47,7 @@ pub fn put_averaged(
     }
 }
 
-/// The same on one segment.
+/// Puts in place on one segment, of the orders that keep the settled pairs, the one that is nearest to its averages.
 fn put_nearest(
     part: &Part,
     solver: &mut Solver,

@@ -30,7 +30,7 @@ pub fn put_left(part: &Part, solver: &mut Solver, settled: &[SettledPair], order
     }
 }
 
-/// The same on one segment.
+/// Puts in place on one segment the first of the orders that keep the settled pairs.
 fn put_first(
     part: &Part,
     solver: &mut Solver,

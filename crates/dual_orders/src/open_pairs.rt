@@ -109,7 +109,7 @@ fn best_on(
     best
 }
 
-/// The same with one pair, where it is not settled.
+/// The better of the best so far and of one pair, where that is not settled, of equals the first.
 fn with_average(
     part: &Part,
     s: usize,

@@ -34,7 +34,8 @@ pub(crate) fn put_ahead(part: &Part, s: usize, settled: &[SettledPair], solver: 
     );
 }
 
-/// The same, of lines that rise.
+/// For each of these lines, which rise, the set of those that are settled to stand before it on the segment, a bit for
+/// the place of each.
 fn put_pairs(lines: &[LineId], s: SegId, settled: &[SettledPair], ahead: &mut [u32])
     requires rising { AreRising lines.now }
     requires few { length lines.now ≤ 16 }

@@ -97,7 +97,8 @@ impl Solver {
     }
 }
 
-/// The same as `take_least`, at the front of longer rows.
+/// Writes the least order of these lines under the rows, of those that keep the settled pairs, to the front of `found`;
+/// the lines as they are where no order keeps them. `places` and `found` may be longer than the order.
 fn take_least_ahead(
     program: &mut SubsetProgram,
     rows: &PairRows,

@@ -1,13 +1,10 @@
 //! The session of an editor of maps, and the command `session`: a script of edits and draws is followed over a feed.
 //!
-//! A `Session` has a feed's tables and settings, and the edits that stand on them. `edit` lets an edit stand, or takes
-//! the last one off. `draw` gives the bytes that `make` gives for the edited tables and settings, or its refusal: what
-//! is kept from draw to draw changes none of them, and saves the search of each part that was finished before.
-//!
-//! What each draw of a script appends to the output are those bytes, or the line of its refusal, after which the script
-//! goes on. The script ends at its first line that is neither a draw nor an edit that may come there; what was drawn
-//! before it stays. Each draw is written as soon as it is made, so no more than one is ever held, and what stands in
-//! the output is at each moment a beginning of the text of all draws.
+//! A `Session` has a feed's tables and settings, and the edits that stand on them. `draw` gives the bytes that `make`
+//! gives for the edited tables and settings, or its refusal; what is kept from draw to draw saves the search of each
+//! part that was finished before. A script ends at its first line that is neither a draw nor an edit that may come
+//! there. Each draw is written as soon as it is made, so what stands in the output is at each moment a beginning of the
+//! text of all draws.
 #![tactic(auto)]
 
 mod drawn;

@@ -1,4 +1,4 @@
-//! How far what is drawn reaches.
+//! Frames: the least and the greatest x and y of what is drawn.
 
 ghost use Rattle.std.specs.Prelude.{◌≡◌};
 ghost use Rattle.eight_sides.specs.Frames.{frame_at, widened, with_number};

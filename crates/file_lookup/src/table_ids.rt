@@ -6,8 +6,8 @@ use std::alloc::Global;
 use std::rt::Files;
 use table_rows::{column_of, field_in, rows_of};
 
-/// The field of each row of a table in the column of this name, as far as they are texts; none where the table or the
-/// column is not there.
+/// The field of each row of the table at this path in the column of this name, as far as they are texts: empty where
+/// the column is not there. None where the table is not there.
 pub fn ids_at<R: Files + AllocGlobal>(
     rt: &R,
     path: &str,
@@ -19,7 +19,8 @@ pub fn ids_at<R: Files + AllocGlobal>(
     }
 }
 
-/// The same of the bytes of a table.
+/// The field of each row of these bytes of a table in the column of this name, as far as they are texts: empty where
+/// the column is not there.
 #[inline(never)]
 fn ids_in(alloc: Global, bytes: &[u8], name: &str) -> Result<Vec<Text>, NoMemory> {
     let rows = rows_of(alloc, bytes)?;

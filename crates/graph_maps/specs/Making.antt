@@ -43,7 +43,7 @@ abbrev pub solved_with : ℕ → Drawn → Result (List SolvedPart) MakeFault �
 solved_with moves drawn (Ok parts) = Ok (record { drawn = after_moves moves drawn; parts = parts })
 solved_with moves drawn (Err stop) = Err stop
 
--- the same of the drawing of a line graph, where there is one
+-- what comes of the drawing of a line graph, where there is one: the drawing with the solved parts of its problem
 abbrev pub solved_of : Choices → MethodChoices → Result Drawn MakeFault → Result SolvedMap MakeFault
 solved_of choices method (Ok drawn) = solved_with method.moves drawn
     (solve_outcome (plan_of choices method) (untangled_problem drawn.problem))

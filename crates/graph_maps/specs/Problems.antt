@@ -24,7 +24,7 @@ problem_of importance choices graph = record {
       importance;
 }
 
--- the same, unless there are too many terms
+-- the problem of a graph's line orders, unless there are too many terms
 abbrev pub problem_within : List ℕ → Choices → GraphParts → Result ProblemParts Limit
 problem_within importance choices graph = graph_problem graph choices.weights importance
 

@@ -49,7 +49,7 @@ pub record ShowsGraph (subject : Subject) (choices : Choices) (claim : Claim) (g
   pub bounded : AreBounded subject.importance choices graph orders proved
   pub claimed : IsClaimed claim proved
 
--- the same with the walks and the orders of this certificate
+-- the map shows exactly this line graph, with the walks and the orders of this certificate
 pub record ShowsCertified (subject : Subject) (choices : Choices) (claim : Claim) (graph : GraphParts)
     (certificate : PlainCertificate) (svg : List ℕ) (proved : Proved) : Type 0 where
   pub shown : IsPictureOf subject graph certificate.walks certificate.orders svg

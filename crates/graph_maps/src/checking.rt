@@ -118,7 +118,8 @@ fn check_items(
     check_walks(alloc, graph, importance, settings, claim, certificate)
 }
 
-/// The walks of a certificate, its orders, and the proof that none cost less.
+/// The items of a certificate from its walks on: the walks, the orders, what these cost, and the proof of what none
+/// cost less than.
 fn check_walks(
     alloc: Global,
     graph: &LineGraph,

@@ -1,13 +1,10 @@
 //! The map of a line graph and its certificate, and the check of both.
 //!
-//! A map is made of a line graph, the names of its stations and lines, and how much each line counts: where these came
-//! from is all one. `make_from` draws the line graph on the grid, finds the line orders that cost least, and writes the
-//! map and a certificate. The problem of the line orders is untangled first, by rules that keep its least cost: the
-//! parts of the untangled problem are solved, and their orders are lifted. `checked_certificate` accepts a certificate
-//! only where the drawing is legal and no line orders cost less than it proves, whoever made it; else it names the
-//! first item that is refused. Pictures are made of what it answers. `Kept` holds what was found of the parts of a
-//! problem from one map to the next, so that no part is searched twice, and `KeptWalks` the drawing that was made last;
-//! neither ever changes a byte.
+//! A map is made of a line graph, the names of its stations and lines, and how much each line counts. `make_from` draws
+//! the line graph on the grid, finds line orders, with the proof of what none cost less than, and writes the map and a
+//! certificate. `checked_certificate` accepts a certificate only where the drawing is legal and no line orders cost
+//! less than it proves, whoever made it; else it names the first item that is refused. `Kept` holds what was found of
+//! the parts of a problem from one map to the next, and `KeptWalks` the drawing that was made last.
 #![tactic(auto)]
 
 mod best_orders;

@@ -67,9 +67,10 @@ pub fn make_from<L: Ledger>(
     Ok(improved.map)
 }
 
-/// The same after at most so many moves more on its drawing, with what these made of it. The line orders stay, and so
-/// does their proof. A drawing that `last` holds is taken again where nothing changed on which it depends; that changes
-/// none of what is made. There is no map exactly where `make_from` makes none, for the same cause.
+/// The map that `make_from` makes, after at most so many moves more on its drawing, with what these made of it. The
+/// line orders stay, and so does their proof. A drawing that `last` holds is taken again where nothing changed on which
+/// it depends; that changes none of what is made. There is no map exactly where `make_from` makes none, for the same
+/// cause.
 pub fn make_improved_from<L: Ledger>(
     alloc: Global,
     graph: &LineGraph,

@@ -1,4 +1,4 @@
-//! Line orders that cost least.
+//! Line orders, and what is proved of them.
 
 use map_base::{LineId, Sequence};
 use order_proof::Part;

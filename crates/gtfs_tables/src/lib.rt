@@ -1,13 +1,9 @@
 //! The tables of an unpacked GTFS feed: the whole feed, or its stations alone, or the first bad row.
 //!
 //! stop_table, route_tables and trip_runs each know one table or two; here they are read one after another, and the
-//! patterns of the trips are made.
-//!
-//! A feed is a folder of CSV files (GTFS Schedule reference). Columns are found by their names in the header,
-//! spaces at both ends aside, the first of equal names; an absent column that is not required, and a field that
-//! a row lacks in it, read as empty, and fields past the header are passed over. A row that can't be read is
-//! refused and never repaired: the answer is then the first bad row of its table, with the least reason of `Why`
-//! that it meets. Each answer is exactly the one that `specs/` defines for the file's bytes.
+//! patterns of the trips are made. A row that can't be read is refused and never repaired: the answer is then the first
+//! bad row of its table, with the least reason of `Why` that it meets. Each answer is exactly the one that `specs/`
+//! defines for the bytes of the files.
 #![tactic(auto)]
 
 mod pattern_set;

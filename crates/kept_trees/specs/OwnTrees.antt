@@ -52,7 +52,7 @@ IsOwnResult h f = IsFoundBy h.how h.spent h.part f
 abbrev pub part_of_key : PartKey → ProblemParts
 part_of_key key = record { segs = map (λ lines. lines.items) key.lists.items; terms = key.terms.items }
 
--- the same with how it is searched
+-- the part by itself that a key stands for, with how it is searched
 abbrev pub held_by : PartKey → HeldPart
 held_by key = record { how = key.how; spent = key.spent; part = part_of_key key }
 

@@ -1,4 +1,4 @@
-//! The search over a part by itself.
+//! The search by dual prices over a part by itself.
 
 ghost use Rattle.std.specs.Prelude.{◌≡◌, ◌+◌, ◌^◌, ◌<◌, ◌≤◌, true, false, length, IfOk, IfErr};
 ghost use Rattle.order_values.specs.DualTrees.{stop};

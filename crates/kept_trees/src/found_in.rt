@@ -36,7 +36,7 @@ pub(crate) fn found_in(
     })
 }
 
-/// The same lists once more.
+/// These lists of lines once more.
 fn copied(alloc: Global, lists: &[Sequence<LineId>]) -> Result<Vec<Sequence<LineId>>, NoMemory>
     ensures { IfOk result (λ others. others.items ≡ lists.now) }
 {

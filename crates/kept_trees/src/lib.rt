@@ -1,13 +1,9 @@
 //! What was found of parts, by the live search or by dual prices, and is kept from problem to problem.
 //!
-//! `search` finds orders of one part that cost least, by dual prices, with the tree that shows it: exactly what
-//! `dual_ascent` defines, or it wants memory. Where it comes to its end within the budget, the orders cost least; where
-//! it is spent, the tree shows a lower bound of the cost, and the orders are the best that were met.
-//!
-//! A part by itself has its segments and its terms numbered from 0 on. A search finds of it what it finds of the part
-//! in each problem, but for the numbers, so a tree that was found once serves every problem that has the part. `Kept`
-//! holds such trees, each under the search by which it was found, and where that was not complete under its budget: its
-//! `solve_part` searches a part only where what is to be known is not held, and what it answers is the same either way.
+//! `search` is the search by dual prices: it finds exactly what `dual_ascent` defines. `Kept` holds what either search
+//! found of a part by itself, whose segments and terms are numbered from 0; that serves every problem which has the
+//! part. Its `solve_part` searches a part only where what is to be known is not held, and what it answers is the same
+//! either way.
 #![tactic(auto)]
 
 mod ascent;

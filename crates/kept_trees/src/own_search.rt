@@ -1,4 +1,4 @@
-//! The search over a part by itself.
+//! Which search a part by itself has, and what it finds.
 
 ghost use Rattle.std.specs.Prelude.{◌≡◌, ◌+◌, ◌<◌, ◌≤◌, ◌^◌, length, All, Ok, IfOk, IfErr, true};
 ghost use Rattle.map_base.specs.declared.ids.SegId.{SegId as Seg};

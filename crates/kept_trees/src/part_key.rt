@@ -89,7 +89,7 @@ pub(crate) fn own_problem(alloc: Global, key: &PartKey) -> Result<Problem, NoMem
     }))
 }
 
-/// The same lists, as a problem has them.
+/// The lines of each segment of a part, as a problem has them.
 fn own_segs(alloc: Global, lists: &[Vec<LineId>]) -> Result<Vec<Sequence<LineId>>, NoMemory>
     ensures { IfOk result (λ segs. segs.items ≡ map (λ lines. lines.items) lists.now) }
 {

@@ -36,7 +36,7 @@ pub(crate) fn renumbered_tree(
     }
 }
 
-/// The same of a dual tree.
+/// A dual tree of a part by itself, with the numbers that its segments and its terms have in the problem.
 fn renumbered_dual(
     alloc: Global,
     tree: &DualTree,
@@ -73,7 +73,7 @@ fn renumbered_dual(
     }
 }
 
-/// The same of a tree of cases.
+/// A tree of cases of a part by itself, with the numbers that its segments and its terms have in the problem.
 #[cycle(renumbered)]
 pub fn renumbered(
     alloc: Global,
@@ -99,7 +99,7 @@ pub fn renumbered(
     }
 }
 
-/// The same of the cases of a Split.
+/// The cases of a Split of a part by itself, with the numbers that their segments and terms have in the problem.
 #[cycle(renumbered)]
 fn renumbered_cases(
     alloc: Global,

@@ -153,7 +153,7 @@ meets_at g box q = list_any (hits box q) g.entries.items
 abbrev pub meets_some : Grid → Bounds → Bool
 meets_some g box = list_any (meets_at g box) (cells_in (cells_of g.side box))
 
--- the same up to an entry, where there is one
+-- some entry of a cell is met by a box, of those up to a place, where there is one
 abbrev pub hits_upto : Bounds → Cell → List Entry → Option ℕ → Bool
 hits_upto box q es None = false
 hits_upto box q es (Some i) = list_any (hits box q) (take (i + 1) es)

@@ -20,14 +20,15 @@ pub fn line_path(alloc: Global, walk: &Walk, k: i32) -> Result<Vec<Corner>, NoMe
     Ok(path)
 }
 
-/// The same, in place of what `path` held.
+/// Puts the path of the line k places to the right of a walk into `path`, in place of what it held.
 pub fn put_path(path: &mut Vec<Corner>, walk: &Walk, k: i32) -> Result<(), NoMemory>
     ensures { OnOk result (path.new.items ≡ line_path walk.now k) }
 {
     put_path_at(path, 100, walk, k)
 }
 
-/// The same where one grid step is `pitch` units.
+/// Puts the path of the line k places to the right of a walk into `path`, in place of what it held, one grid step being
+/// `pitch` units.
 pub fn put_path_at(path: &mut Vec<Corner>, pitch: u32, walk: &Walk, k: i32) -> Result<(), NoMemory>
     requires { pitch ≤ 200 }
     ensures { OnOk result (path.new.items ≡ line_path_at pitch walk.now k) }
@@ -43,14 +44,14 @@ pub fn put_path_at(path: &mut Vec<Corner>, pitch: u32, walk: &Walk, k: i32) -> R
     Ok(())
 }
 
-/// Where the path of a line starts.
+/// Where the path of the line k places to the right of a walk starts.
 pub fn path_start(walk: &Walk, k: i32) -> Corner
     ensures { result ≡ path_start walk.now k }
 {
     path_start_at(100, walk, k)
 }
 
-/// The same where one grid step is `pitch` units.
+/// Where the path of the line k places to the right of a walk starts, one grid step being `pitch` units.
 pub fn path_start_at(pitch: u32, walk: &Walk, k: i32) -> Corner
     requires { pitch ≤ 200 }
     ensures { result ≡ path_start_at pitch walk.now k }
@@ -58,14 +59,14 @@ pub fn path_start_at(pitch: u32, walk: &Walk, k: i32) -> Corner
     moved_at(pitch, walk.start(), k, foot_of(walk.start_port()))
 }
 
-/// Where the path of a line ends.
+/// Where the path of the line k places to the right of a walk ends.
 pub fn path_end(walk: &Walk, k: i32) -> Corner
     ensures { result ≡ path_end walk.now k }
 {
     path_end_at(100, walk, k)
 }
 
-/// The same where one grid step is `pitch` units.
+/// Where the path of the line k places to the right of a walk ends, one grid step being `pitch` units.
 pub fn path_end_at(pitch: u32, walk: &Walk, k: i32) -> Corner
     requires { pitch ≤ 200 }
     ensures { result ≡ path_end_at pitch walk.now k }

@@ -37,7 +37,7 @@ map_outputs paths made =
 abbrev pub poster_due : Loaded → MapBytes → Result (List ℕ) CheckFault
 poster_due loaded made = poster_outcome loaded.tables loaded.settings loaded.method.claim (certificate_in made.certificate)
 
--- the same by the line graph
+-- the poster by the line graph and a certificate
 abbrev pub poster_by : Loaded → GraphParts → List ℕ → Result (List ℕ) CheckFault
 poster_by loaded graph certificate = postered_items loaded.tables loaded.settings loaded.method.claim graph (certificate_in certificate)
 

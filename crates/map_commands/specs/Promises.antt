@@ -47,7 +47,7 @@ pub record AreOfYes (told : Option (List (List ℕ × List ℕ))) (inputs : Inpu
   pub accepted : IsAccepted told inputs loaded picture proved
   pub are : outputs ≡ said (proved_line proved)
 
--- the counter of steps rises by at most the branch nodes of the live trees of all parts of the feed's problem
+-- the counter of steps rises by at most the branch nodes of the searches of all parts of the feed's problem
 abbrev pub SearchesParts : Option (List (List ℕ × List ℕ)) → InputPaths → ℕ → ℕ → Type 0
 SearchesParts told inputs before now =
     (now ≡ before) ⊎ ((loaded : Loaded) × Loads told inputs loaded × (now ≤ before + branches_left [] loaded.tables loaded.settings loaded.method))

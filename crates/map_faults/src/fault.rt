@@ -17,7 +17,7 @@ use std::alloc::{AllocError, AllocFailed};
 pub enum MakeFault {
     /// No fineness of the grid gives each segment a walk; at the last one this is the first segment without one.
     NoRoute { seg: SegId },
-    /// The live tree of this part of the untangled problem, counted from 0, has more branch nodes than the budget;
+    /// The search of this part of the untangled problem, counted from 0, meets more branch nodes than the budget;
     /// `branches` is the budget plus 1.
     Spent { component: u32, branches: u32 },
     /// There is more of something than the greatest allowed number.

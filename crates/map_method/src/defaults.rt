@@ -15,8 +15,8 @@ use std::alloc::Global;
 pub enum Defaults {
     /// Those of `make`: few tries, on coarse grids.
     Make,
-    /// Those of `map`: every real network is drawn, its dense centre gets room, its lines run straight, and its orders are
-    /// found.
+    /// Those of `map`: many tries, on finer grids too, with nodes spread; lines laid straight; and orders searched for
+    /// by dual prices, within a greater budget.
     Map,
 }
 

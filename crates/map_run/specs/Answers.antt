@@ -27,7 +27,7 @@ whole outputs = record { outputs = outputs; bad_line = None }
 abbrev pub stopped : Played → Finished
 stopped played = record { outputs = played.outputs; bad_line = played.bad }
 
--- the same of a result
+-- what a command without a script came to
 abbrev pub whole_by : Result (List Output) Refusal → Result Finished Refusal
 whole_by (Ok outputs) = Ok (whole outputs)
 whole_by (Err why) = Err why

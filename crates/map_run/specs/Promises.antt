@@ -35,7 +35,8 @@ abbrev pub Keeps : Option (List (List ℕ × List ℕ)) → Asked → Result Fin
 Keeps told asked (Ok finished) = Promised told asked finished
 Keeps told asked (Err why) = ⊤
 
--- how far the counter of steps rises: `make`, `improve`, `session` and `trial` search parts, and no other command takes a step
+-- how far the counter of steps rises: `make`, `improve`, `import`, `session` and `trial` search parts, and no other
+-- command takes a step
 abbrev pub TakesSteps : Option (List (List ℕ × List ℕ)) → Option Asked → ℕ → ℕ → Type 0
 TakesSteps told None before now = now ≡ before
 TakesSteps told (Some (stations feed)) before now = now ≡ before

@@ -65,7 +65,8 @@ settings_change entry =
     else if bytes_eq entry.0 (codes "importance") then option_map importance_is (importance_of entry.1)
     else None
 
--- the same in how a map is found
+-- what an entry changes in how a map is found: nothing where its key is none of these, or its value is of another type
+-- or out of range
 abbrev pub method_change : List ℕ × Data → Option (MethodChoices → MethodChoices)
 method_change entry =
     if bytes_eq entry.0 (codes "search") then option_map search_is (search_of entry.1)

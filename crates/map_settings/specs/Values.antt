@@ -99,7 +99,7 @@ claim_of value = option_and_then claim_named (as_str value)
 abbrev pub spread_named : List ℕ → Option Spread
 spread_named name = if bytes_eq name (codes "auto") then Some Auto else None
 
--- the same of a name, and else of percents
+-- how far nodes are spread, by the name that a value is, and else by its percents
 abbrev pub spread_by : Option (List ℕ) → Data → Option Spread
 spread_by (Some name) value = spread_named name
 spread_by None value = option_map Percent (whole_number 0 100 value)

@@ -95,7 +95,7 @@ fn size(step: Step) -> u64
     10 * u64::from(tenth(step))
 }
 
-/// Half of it.
+/// Half of the size of type.
 fn half_size(step: Step) -> u64
     ensures value { result ≡ 5 * tenth step }
     ensures small { result ≤ 15 }
@@ -120,7 +120,7 @@ fn gap(sign: Sign) -> u64
     u64::from(sign.radius) + 6
 }
 
-/// The same at a corner, both ways.
+/// How far a name at a corner keeps from the centre of its station, both ways.
 fn corner_gap(sign: Sign) -> u64
     ensures value { result ≡ corner_gap sign }
     ensures small { result ≤ 4294967301 }
@@ -174,7 +174,7 @@ fn onwards(z: i64, from: u64, long: u64) -> Interval
     }
 }
 
-/// The same down from it.
+/// The numbers from so far down from one, so many of them.
 fn backwards(z: i64, from: u64, long: u64) -> Interval
     requires { unsigned_abs z + (from + long) ≤ 1099511627776 }
     ensures value { result ≡ backwards z from long }

@@ -32,11 +32,11 @@ place_by width height easts norths o = record {
   even = record { east = even_place width easts o.east; north = even_place height norths o.north };
 }
 
--- the same among nodes at these offsets
+-- where a node lies, and its even place among nodes at these offsets
 abbrev pub place_among : ℕ → ℕ → List Offset → Offset → Place
 place_among width height os o = place_by width height (offsets_along true os) (offsets_along false os) o
 
--- the same of each of a graph's nodes
+-- where each of a graph's nodes lies, and its even place
 abbrev pub places_of : List Point → List Place
 places_of ps = map (place_among (width_of ps) (height_of ps) (offsets_of ps)) (offsets_of ps)
 

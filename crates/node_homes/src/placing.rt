@@ -50,7 +50,8 @@ pub fn place(
     place_spread(alloc, graph, cell, fineness, percent, &places)
 }
 
-/// The same, by the even places of the nodes.
+/// The homes of a graph's nodes, which are put so many percent of the way to their even places, by where they lie and
+/// these places.
 pub fn place_spread(
     alloc: Global,
     graph: &LineGraph,
@@ -69,7 +70,7 @@ pub fn place_spread(
     place_at(alloc, graph, cell, fineness, &offsets)
 }
 
-/// The same for nodes that are put at any offsets within the extents of the graph.
+/// The homes of a graph's nodes, which are put at any offsets within the extents of the graph.
 fn place_at(
     alloc: Global,
     graph: &LineGraph,

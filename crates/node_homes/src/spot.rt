@@ -68,7 +68,7 @@ impl Spot {
         self.square_apart(p.x, self.offset.east) + self.square_apart(p.y, self.offset.north)
     }
 
-    /// The same of a row or a column alone.
+    /// The square of how far a row or a column is from a place, in parts of a fineness of a decimetre.
     pub(crate) fn square_apart(self, line: i32, at: u32) -> u128
         requires fine { self.fineness ≤ 16 }
         requires near { at ≤ 600000000 }

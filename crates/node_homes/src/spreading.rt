@@ -29,7 +29,7 @@ pub fn places_of(alloc: Global, graph: &LineGraph) -> Result<Vec<Place>, NoMemor
     places_among(alloc, extents, &offsets)
 }
 
-/// The same of nodes at these offsets.
+/// Where each node at these offsets lies, and its even place.
 fn places_among(alloc: Global, extents: Extents, offsets: &[Offset]) -> Result<Vec<Place>, NoMemory>
     requires { length offsets.now ≤ 10000 }
     ensures { IfOk result (λ places. places.items ≡ map (place_among extents.width extents.height offsets.now) offsets.now) }
@@ -39,7 +39,7 @@ fn places_among(alloc: Global, extents: Extents, offsets: &[Offset]) -> Result<V
     places_by(alloc, extents, &easts, &norths, offsets)
 }
 
-/// The same, where the numbers on both axes rise.
+/// Where each node at these offsets lies, and its even place among the numbers on both axes, which rise.
 fn places_by(
     alloc: Global,
     extents: Extents,

@@ -62,7 +62,7 @@ pub record AreThose (picks : Term → Bool) (asked : Asked) (some : List PartTer
 abbrev pub ArePicked : Asked → List PartTerm → Type 0
 ArePicked asked some = (picks : Term → Bool) × AreThose picks asked some
 
--- the same tally of all terms but some
+-- the sums and the costs of slots are the tally of all terms but some
 pub record IsTallyWithout (some : List PartTerm) (asked : Asked) (placed : List (List LineId)) (sums : Sums) (costs : List SlotCost) : Type 0 where
   pub decided : sums.decided + sum_by (decided_of asked.problem.now.segs placed) some ≡ decided_sum asked.problem.now.segs placed (map plain_term asked.table.now.terms.items)
   pub slots : (k : ℕ) → k < length costs → (x : Bool)

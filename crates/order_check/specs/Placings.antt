@@ -21,7 +21,8 @@ last_or lines other = slice_index_or lines (length lines - 1) other
 abbrev pub other_left : List LineId → LineId → List LineId → LineId
 other_left placed line lines = unwrap_or (find (is_unplaced (placed ++ line ∷ [])) lines) line
 
--- the same where no more than three lines are left; else the line that is placed last
+-- where no more than three lines of a segment are left, the one that is left beside this one; else the line that is
+-- placed last
 abbrev pub left_or : List LineId → List LineId → LineId → LineId
 left_or lines placed line = if nat_le (length lines) (length placed + 3) then other_left placed line lines else last_or placed line
 
@@ -48,7 +49,7 @@ is_of_any (Some line) t = is_of_line line t
 abbrev pub is_picked : Pick → List LineId → List LineId → Term → Bool
 is_picked c lines placed t = is_left lines placed (beside_line c.spot.line t) && not (is_of_any c.but t)
 
--- the same of a term there by its place among these
+-- the term that stands at the place of a spot's term among these
 abbrev pub term_of : List PartTerm → SpotTerm → PartTerm
 term_of terms t = slice_index_or terms t.place no_part_term
 
@@ -60,7 +61,7 @@ abbrev pub picked_of : Pick → List LineId → List LineId → List PartTerm �
 picked_of c lines placed terms [] = []
 picked_of c lines placed terms (t ∷ some) = (if is_picked_of c lines placed terms t then term_of terms t ∷ [] else []) ++ picked_of c lines placed terms some
 
--- the same of all terms of a part
+-- whether a pick picks a term, of all terms of a part: it is at its spot, and picked there
 abbrev pub is_picked_at : Pick → List LineId → List LineId → Term → Bool
 is_picked_at c lines placed t = is_at c.spot t && is_picked c lines placed t
 

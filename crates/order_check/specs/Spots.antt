@@ -58,7 +58,7 @@ beside_line line (Apart seg other a b w) = other_than a b line
 abbrev pub spot_term : ℕ → Spot → Term → SpotTerm
 spot_term n u t = record { place = n; other = beside_line u.line t }
 
--- the same by its two lines
+-- the term at this place, at a spot, by its two lines
 abbrev pub pair_term : ℕ → LineId → LineId → Spot → SpotTerm
 pair_term n a b u = record { place = n; other = other_than a b u.line }
 

@@ -1,4 +1,4 @@
-//! What is asked of a tree.
+//! A part with its table of terms, and the target that a tree of cases has to show.
 
 use crate::part_table::PartTable;
 use map_base::SegId;

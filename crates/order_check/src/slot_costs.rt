@@ -46,7 +46,8 @@ pub(crate) fn count(
     Sums { decided, least }
 }
 
-/// The same of one term.
+/// Adds to the table of slots what one term adds for a prefix, with no prices, or takes it off again. Answers what is
+/// decided of it and the sum over the slots after it.
 fn count_term(
     problem: &Problem,
     prefix: &Prefix,

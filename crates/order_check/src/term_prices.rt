@@ -72,7 +72,8 @@ pub(crate) fn spread(
     least
 }
 
-/// The same of one price.
+/// Adds what the open Link of one price adds under it to the table of slots, or takes it off again; nothing where no
+/// term has its number. Answers the sum over the slots after it.
 fn spread_price(
     numbers: &[u32],
     terms: &[PartTerm],

@@ -61,7 +61,8 @@ pub(crate) fn walk(
     }
 }
 
-/// The same of a Split.
+/// Whether a Split is accepted for a prefix, whose tally is at hand. Where it is not, the lines on the way to the first
+/// node that fails are added to `way`. The prefix and the tally are left as they were.
 #[cycle(walk)]
 fn walk_split(
     alloc: Global,
@@ -96,7 +97,9 @@ fn walk_split(
     Ok(true)
 }
 
-/// The same of one case, whose line is placed while its tree is walked. The terms that this may change are picked once.
+/// Whether one case of a Split is accepted for a prefix, whose tally is at hand: its line is placed while its tree is
+/// walked. Where it is not, this line and those on the way to the first node that fails are added to `way`. The prefix
+/// and the tally are left as they were. The terms that the line may change are picked once.
 #[cycle(walk)]
 fn walk_case(
     alloc: Global,

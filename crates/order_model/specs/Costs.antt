@@ -46,7 +46,7 @@ is_met_on here there (Side seg first second w) = comes_before here second first
 is_met_on here there (Link seg other flip a b w) = same_answer flip (same_answer (comes_before here a b) (comes_before there a b))
 is_met_on here there (Apart seg other a b w) = not (same_answer (are_neighbours here a b) (are_neighbours there a b))
 
--- the same under the orders of all segments
+-- whether a term costs under the orders of all segments
 abbrev pub is_met : List (List LineId) → Term → Bool
 is_met orders t = is_met_on (lines_on orders (seg_of t)) (lines_on orders (other_of t)) t
 

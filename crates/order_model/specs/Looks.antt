@@ -16,7 +16,7 @@ is_decided placed s a b = is_placed (lines_on placed s) a || is_placed (lines_on
 abbrev pub first_of : List LineId → LineId → LineId → Option Bool
 first_of placed a b = if is_placed placed a || is_placed placed b then Some (comes_before placed a b) else None
 
--- the same on a segment
+-- whether the first of two lines stands first on a segment, where that is decided
 abbrev pub stands_first : List (List LineId) → SegId → LineId → LineId → Option Bool
 stands_first placed s a b = first_of (lines_on placed s) a b
 
@@ -37,7 +37,8 @@ neighbours_on lines placed a b =
     else if length placed + 2 == length lines then Some true
     else None
 
--- The same by the places of two lines, and by how many of how many lines are placed.
+-- Which of two lines stands first, and whether they are neighbours, by the places of the two and by how many of how
+-- many lines are placed.
 
 abbrev pub first_at : ℕ → ℕ → Option Bool
 first_at i j = if i == no_place then (if j == no_place then None else Some (nat_lt i j)) else Some (nat_lt i j)

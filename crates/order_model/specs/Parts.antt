@@ -61,7 +61,7 @@ relabelled low high l = if l == high then low else l
 abbrev pub joined : List ℕ → ℕ → ℕ → List ℕ
 joined labels a b = map (relabelled (min a b) (max a b)) labels
 
--- the same for the two segments of a Link or an Apart
+-- the classes of the two segments of a Link or an Apart become one; a Side joins none
 abbrev pub joined_by : List ℕ → Term → List ℕ
 joined_by labels (Side seg first second w) = labels
 joined_by labels (Link seg other flip a b w) = joined labels (slice_index labels seg.0) (slice_index labels other.0)

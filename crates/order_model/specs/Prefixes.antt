@@ -30,7 +30,7 @@ with_last lines placed = if length placed + 1 == length lines then placed ++ opt
 abbrev pub first_placed : List LineId → List LineId
 first_placed lines = with_last lines []
 
--- the same on all segments
+-- what is placed on all segments before any line is chosen
 abbrev pub none_placed : List (List LineId) → List (List LineId)
 none_placed segs = map first_placed segs
 

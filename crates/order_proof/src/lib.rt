@@ -1,4 +1,4 @@
-//! Proofs that orders of lines cost least: their form, and their text both ways.
+//! Proofs that no orders of lines cost less than a number: their form, and their text both ways.
 #![tactic(auto)]
 
 mod dual_forms;

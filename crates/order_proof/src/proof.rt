@@ -1,4 +1,4 @@
-//! Proofs that orders cost least.
+//! Proofs that no orders cost less than a number.
 
 use crate::part_tree::PartTree;
 use map_base::{SegId, Sequence};
@@ -16,8 +16,8 @@ pub struct Part {
     pub tree: PartTree,
 }
 
-/// A proof that orders cost least: rules that make the problem smaller, and a tree for each part that is left.
-/// Contracts see it as the record of its fields, its trees as plain ones.
+/// A proof that no orders cost less than the sum of its targets: rules that make the problem smaller, and a tree for
+/// each part that is left. Contracts see it as the record of its fields, its trees as plain ones.
 #[derive(Debug, Drop)]
 pub struct Proof {
     /// The rules, in the order in which they are applied.

@@ -77,7 +77,7 @@ pub(crate) fn found_text(
     Ok(text)
 }
 
-/// The same of what the live search found.
+/// The orders that the live search found, its proof, and how many branch nodes it has.
 fn live_text(alloc: Global, segs: Vec<SegId>, found: Found) -> Result<String, Fail>
     requires { IsProofTree (plain found.tree) }
 {

@@ -60,7 +60,8 @@ fn is_bounded(
     Ok(prices.as_slice() == listed)
 }
 
-/// The same of the prefix of a small problem on which these lines are chosen in turn.
+/// Whether the prefix of a small problem on which these lines are chosen in turn has this bound on the problem's one
+/// part, and these canonical prices, of this value.
 fn has_bound(
     alloc: Global,
     small: Small,
@@ -109,7 +110,7 @@ fn value_at(
     Ok(value(problem, part.as_slice(), prefix, &prices))
 }
 
-/// The same of the problem whose lines cross, once these lines are placed.
+/// What a price on one term shows of the problem whose lines cross, once these lines are placed.
 fn value_of(
     alloc: Global,
     chosen: &[(u32, u32)],

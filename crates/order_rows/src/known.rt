@@ -86,7 +86,7 @@ pub(crate) const ENDING: Small = Small {
     ],
 };
 
-/// The same, where the second line is four times as important as the others.
+/// Three lines on a segment, where the second ends, which is four times as important as the others.
 pub(crate) const IMPORTANT: Small = Small {
     lines: &[0b001, 0b111, 0b100, 0b010, 0b101],
     terms: &[

@@ -222,7 +222,7 @@ fn cost_in_parts(alloc: Global, problem: &Problem) -> Result<u64, Fail> {
     Ok(sum)
 }
 
-/// The same of a small problem.
+/// The sum of what the searches of all parts of a small problem find.
 fn least_cost(alloc: Global, small: Small) -> Result<u64, Fail> {
     let problem = problem_of(alloc, small.lines, small.terms)?;
     cost_in_parts(alloc, &problem)

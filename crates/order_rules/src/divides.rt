@@ -90,7 +90,7 @@ pub fn leaves_some(lines: &[LineId], group: &[LineId]) -> bool
     has_other(lines, group)
 }
 
-/// The same, as a search.
+/// Whether a search finds one of these lines that is not of the group.
 fn has_other(lines: &[LineId], group: &[LineId]) -> bool
     ensures { result ≡ list_any (λ b. not (has_line group.now b)) lines.now }
 {
@@ -241,7 +241,7 @@ fn most_apart(terms: &[Term], seg: SegId, lines: &[LineId]) -> u64
     most
 }
 
-/// The same for one line with each of these others.
+/// The greatest weight that the Aparts of one line and one of these others on a segment have together.
 pub fn most_apart_with(terms: &[Term], seg: SegId, line: LineId, others: &[LineId]) -> u64
     requires { length terms.now ≤ 4000000 }
     ensures most { result ≡ most_by (λ b. weight_where (λ t. is_apart t && is_on seg t && is_of_lines line b t) terms.now) others.now }

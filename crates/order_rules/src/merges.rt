@@ -106,7 +106,7 @@ fn all_outweigh(terms: &[Term], into: SegId, from: SegId, lines: &[LineId]) -> b
     true
 }
 
-/// The same for one line with each of these others.
+/// Whether for one line with each of these others what lies between the two segments outweighs the rest on `from`.
 pub fn outweigh_with(
     terms: &[Term],
     into: SegId,
@@ -122,7 +122,7 @@ pub fn outweigh_with(
         .all(|other| outweighs(terms, into, from, line, *other))
 }
 
-/// The same for two lines.
+/// Whether for two lines what lies between the two segments outweighs the rest on `from`.
 fn outweighs(terms: &[Term], into: SegId, from: SegId, a: LineId, b: LineId) -> bool
     requires { length terms.now ≤ 4000000 }
     ensures { result ≡ outweighs into from terms.now a b }

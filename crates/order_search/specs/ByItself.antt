@@ -21,7 +21,7 @@ seg_numbers part = map (λ (s : SegId). s.0) part
 abbrev pub place_in : List SegId → SegId → ℕ
 place_in part s = place_among (seg_numbers part) s.0
 
--- the same as a segment of the part by itself
+-- a segment of the part, numbered by its place there
 abbrev pub seg_in : List SegId → SegId → SegId
 seg_in part s = record { 0 = place_in part s }
 

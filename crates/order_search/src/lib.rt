@@ -1,4 +1,5 @@
-//! The search for orders of a part that cost least, by branch and bound, with the live tree that shows it.
+//! The search for orders of a part that cost least, by branch and bound, with the live tree that shows it (the search
+//! tree whose leaves are closed by their bound).
 //!
 //! Each part has exactly one live tree. It is accepted at its target, which is the least cost of the part and that of the
 //! orders that it finds. It has no more branch nodes than the part has prefixes that are not complete. `search` finds it,

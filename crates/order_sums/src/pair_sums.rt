@@ -90,7 +90,7 @@ impl PairSums {
         !self.against && 2 * most <= self.sides
     }
 
-    /// The same the other way round.
+    /// Whether the other can stand before the one, where Aparts of two lines weigh so much at most.
     pub fn part_turned(&self, most: u64) -> bool
         requires { most < 2 ^ 63 }
         ensures { result ≡ sums_part most self.now.against_turned self.now.sides }

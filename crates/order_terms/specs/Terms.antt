@@ -52,7 +52,7 @@ if_weighed w x = if nat_lt 0 w then x ∷ [] else []
 abbrev pub found_together : Kind → SegId → Way → Way → Found
 found_together k e u v = record { lesser = u.line; greater = v.line; kind = k; seg = e; to = u.to; beside = u.to; first = u.line }
 
--- the same, told at the lesser of the two segments
+-- what two lines make that both go on from the segment e to another, told at the lesser of the two segments
 abbrev pub together : Weights → SegId → Way → Way → List Found
 together w e u v =
     if nat_lt e.0 u.to.0 then if_weighed w.link (found_together Link e u v) ++ if_weighed w.sep (found_together Apart e u v) else []

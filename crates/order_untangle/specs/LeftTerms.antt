@@ -57,7 +57,7 @@ pub record IsFit (n : ℕ) (t : Term) : Type 0 where
   pub seg_known : (seg_of t).0 < n
   pub other_known : (other_of t).0 < n
 
--- the same of a cell that is not empty
+-- the segments of the term of a cell, where it is not empty, are among so many, and the lesser one stands first
 abbrev pub IsFitCell : ℕ → Option Term → Type 0
 IsFitCell n None = Unit {0}
 IsFitCell n (Some t) = IsFit n t

@@ -73,7 +73,7 @@ group_if lines group = if are_none (others lines group) then None else Some grou
 abbrev pub group_by : List Term → SegId → List LineId → LineId → Option (List LineId)
 group_by here e lines a = group_if lines (grown (most_by_lines here e lines) here e lines (length lines) (a ∷ []))
 
--- the same in a problem
+-- the closure of a line of a segment of a problem, where it is not all lines
 abbrev pub group_of : ProblemParts → SegId → LineId → Option (List LineId)
 group_of p e a = group_if (lines_on p.segs e) (closure p e a)
 

@@ -142,7 +142,8 @@ pub(crate) fn group_by(
     Ok(group)
 }
 
-/// The same by the sums of each two lines.
+/// The closure of the least line of a segment whose closure is not all its lines, if there is one, by the sums of each
+/// two lines.
 fn closed_group(
     alloc: Global,
     terms: &[Term],

@@ -1,4 +1,4 @@
-//! Untangling: rule after rule, each the least that applies, until none does.
+//! The untangling of a problem, and rules that are given, done one after another.
 
 ghost use Rattle.std.specs.Prelude.{◌≡◌, IfOk};
 ghost use Rattle.std.specs.Result.{result_err};

@@ -1,4 +1,4 @@
-//! The laws.
+//! What a picture shows of lines and stations, and that its text tells its elements.
 
 ghost use Rattle.std.specs.Prelude.{◌≡◌, ℕ, ◌<◌, ◌==◌, true, not, List, length, map, filter, Option, Some, slice_get, count_by, Contains};
 ghost use Rattle.std.specs.List.{AllByRecursion, list_all};

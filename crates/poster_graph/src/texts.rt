@@ -64,7 +64,7 @@ fn unless_second<'a>(second: bool, rest: Option<&'a str>) -> Option<&'a str>
     }
 }
 
-/// The same of what is left.
+/// This text, which is left of a name, where it is not empty and its node is no second platform.
 fn unless_empty<'a>(second: bool, text: &'a str) -> Option<&'a str>
     ensures { text_in result ≡ unless_second second (Some text.now) }
 {
@@ -120,7 +120,7 @@ fn rest_at<'a>(
     node_rest(common, names, graph.kind(n))
 }
 
-/// The same of a node of this kind, where the word is common to some names.
+/// The name of a node of this kind without the word that is common to some names, where it is a station.
 fn node_rest<'a>(common: Option<&str>, names: &'a Names, kind: NodeKind) -> Option<&'a str>
     ensures { (all : List (List ℕ)) → ((word : List ℕ) → is_common all word ≡ is_that word common.entry) → text_in result ≡ node_rest all names.now kind }
 {

@@ -1,4 +1,4 @@
-//! The law.
+//! That each line of each segment has its path on a poster, and each station its group.
 
 ghost use Rattle.std.specs.Prelude.{◌≡◌, ◌++◌, ℕ, List, Option, filter, flat_map, length};
 ghost use Rattle.std.specs.List.{range_with_len};

@@ -1,4 +1,4 @@
-//! How far what is drawn reaches.
+//! The frame of a poster: that of the grid points of its walks and of its names.
 
 ghost use Rattle.std.specs.Prelude.{◌≡◌, ◌≤◌, ◌-ℤ◌, int_le, pos, unsigned_abs, fold};
 ghost use Rattle.eight_sides.specs.Frames.{frame_of, shape_corners, widened};

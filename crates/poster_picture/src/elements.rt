@@ -224,7 +224,7 @@ pub(crate) fn push_along(
     Ok(())
 }
 
-/// The same in an ink.
+/// Appends a stroke along a path, in the colour of an ink.
 pub(crate) fn push_inked(
     text: &mut String,
     path: &[Corner],

@@ -68,7 +68,7 @@ walked_corners u (p ∷ ps) = flat_map (λ (q : Piece). drawn_at u q.start ∷ d
 abbrev pub frame_with : ℕ → Plan → List Printed → Frame
 frame_with u plan printed = frame_of (walked_corners u plan.pieces ++ flat_map (λ (p : Printed). shape_corners (printed_shape u plan p)) printed)
 
--- the same of the names that are printed at a pitch
+-- the least frame of all grid points of walks and of the names that are printed at a pitch
 abbrev pub extent : ℕ → Plan → Frame
 extent u plan = frame_with u plan (printed_names u plan)
 

@@ -31,7 +31,8 @@ upright_first =
     place.E ∷ place.W ∷ place.SE ∷ place.NE ∷ place.NW ∷ place.SW ∷ place.N ∷ place.S
     ∷ place.UpEast ∷ place.DownWest ∷ place.DownEast ∷ place.UpWest ∷ []
 
--- the same where all segments of the station are level: its neighbours' names are beside it, so slanted ones come early
+-- the places in the order in which they are tried where all segments of the station are level: its neighbours' names
+-- are beside it, so slanted ones come early
 abbrev pub slanted_first : List Place
 slanted_first =
     place.E ∷ place.W ∷ place.UpEast ∷ place.DownWest ∷ place.DownEast ∷ place.UpWest

@@ -1,4 +1,4 @@
-//! What stations, straight pieces and names take up.
+//! What stations, straight pieces and names take up, and whose it is.
 
 use eight_sides::Shape;
 

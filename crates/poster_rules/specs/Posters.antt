@@ -223,7 +223,7 @@ elements_with sheet plan printed lines legend =
     ++ (Closes ∷ Opens LegendGroup ∷ []
     ++ (legend_elements sheet.names legend lines ++ Closes ∷ Tail ∷ []))))))))
 
--- the same at the pitch of a plan, with the names that are printed there and the legend
+-- the elements of the sheet at a pitch of a plan, with the names that are printed there and the legend
 abbrev pub elements_at : Names → GraphParts → List PlainWalk → List (List LineId) → List (List LineId) → Plan → ℕ → List Element
 elements_at names g walks orders callers plan u =
     let printed = printed_names u plan in

@@ -26,7 +26,7 @@ abbrev pub node_rest : List (List ℕ) → Names → NodeKind → Option (List �
 node_rest all names (Station s) = Some (rest_of all (station_name names s.0))
 node_rest all names Junction = None
 
--- the same of each node
+-- the name of each node without such a word
 abbrev pub all_rests : Names → GraphParts → List (Option (List ℕ))
 all_rests names g = map (node_rest (all_names names g) names) g.kinds
 

@@ -42,7 +42,8 @@ here_share placed prices lesser_first l a b =
     then pos (if same_answer l.flip (same_answer lesser_first (comes_before (lines_on placed l.other) a b)) then l.weight else 0)
     else where_one (is_one lesser_first) (pos 0 -ℤ price_at prices l.number)
 
--- the same on its other segment
+-- what a Link adds on its other segment by the order of its lines there: nothing where they are decided; its cost where
+-- they are decided on its own segment; else its share of its price
 abbrev pub there_share : List (List LineId) → List (ℕ × ℤ) → Bool → OpenLink → LineId → LineId → ℤ
 there_share placed prices lesser_first l a b =
     if is_decided placed l.other a b then pos 0

@@ -1,4 +1,4 @@
-//! The laws.
+//! That closures are the least groups, and that nothing applies where no rule is left.
 
 ghost use Rattle.std.specs.Prelude.{◌≡◌, true, false, List, None};
 ghost use Rattle.map_base.specs.declared.ids.SegId.{SegId};

@@ -1,4 +1,4 @@
-//! The law.
+//! The four ways in which a run of a command ends.
 
 ghost use Rattle.std.specs.Prelude.{ℕ, List, Some};
 ghost use Rattle.files_door.specs.Fault.{Rose};

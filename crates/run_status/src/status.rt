@@ -22,7 +22,7 @@ pub enum Status {
     BadRow { table: Table, row: u64, why: Why },
     /// No fineness of the grid gives each segment a walk; at the last one this is the first segment without one.
     NoRoute { seg: SegId },
-    /// The live tree of this part, counted from 0, has more branch nodes than the budget; `branches` is the budget
+    /// The search of this part, counted from 0, meets more branch nodes than the budget; `branches` is the budget
     /// plus 1.
     Spent { component: u32, branches: u32 },
     /// This is the first counted quantity above its greatest allowed number.

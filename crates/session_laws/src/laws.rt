@@ -1,4 +1,4 @@
-//! The laws.
+//! That a draw of a session gives what `make` gives with the edits before it.
 
 ghost use Rattle.std.specs.Prelude.{◌≡◌, ℕ, true, List, length, Option, None, Some, Result, Ok, slice_get};
 ghost use Rattle.std.specs.Str.Lines.{lines};

@@ -149,7 +149,8 @@ pub fn lower(
     queue.push(cost + ahead, at)
 }
 
-/// The same for a spot, by the row of its place and the number of that place.
+/// Notes a cost of a spot in the row of its place where none as low is known, and lets the spot wait with what it costs
+/// at least to come to its place added.
 pub fn lower_in(
     row: &mut Row,
     queue: &mut Queue,

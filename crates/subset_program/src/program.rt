@@ -66,8 +66,8 @@ impl SubsetProgram {
         table::least_cost(self.tails.as_mut_slice(), self.heads.as_mut_slice(), rows)
     }
 
-    /// The same, and into `order` the places of its lines, where there is such an order; among those of least cost it is the
-    /// least as a list.
+    /// What the least order of the lines costs that keeps the settled pairs, and into `order` the places of its lines,
+    /// where there is such an order; among those of least cost it is the least as a list.
     pub fn least_order(&mut self, rows: &PairRows, order: &mut [u32]) -> Option<i64>
         requires rows { AreRows (plain_rows rows.now) }
         requires room { rows.now.count ≤ self.old }

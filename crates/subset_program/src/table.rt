@@ -133,7 +133,7 @@ fn fill(tails: &mut [Tail], heads: &mut [Choice], rows: &PairRows)
     }
 }
 
-/// The same of one set, where the table has all greater ones.
+/// Fills the entries of one set, where the table has those of all greater sets.
 fn fill_set(tails: &mut [Tail], heads: &mut [Choice], rows: &PairRows, set: usize)
     requires rows { AreRows (plain_rows rows.now) }
     requires room { 2 ^ rows.now.count * rows.now.count ≤ length tails.old }
@@ -149,7 +149,7 @@ fn fill_set(tails: &mut [Tail], heads: &mut [Choice], rows: &PairRows, set: usiz
     }
 }
 
-/// The same of a set and one line, where the set has it.
+/// Fills the entry of a set and one line, where the set has the line.
 fn fill_at(
     tails: &mut [Tail],
     heads: &[Choice],

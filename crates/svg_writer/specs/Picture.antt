@@ -149,7 +149,7 @@ most_lines lines round = fold (λ most (s : SegId). max most (length (lines_at l
 abbrev pub radius_in : Style → GraphParts → ℕ → ℕ
 radius_in style g n = style.radius_each * most_lines g.lines (round_at g.rounds n) + style.radius_more
 
--- the same on the grid
+-- the radius of the marker of node n in a map on the grid
 abbrev pub radius_of : GraphParts → ℕ → ℕ
 radius_of g n = radius_in grid_style g n
 
@@ -201,7 +201,7 @@ abbrev pub elements_with : Style → Names → GraphParts → Courses → List (
 elements_with style names g courses orders frame labels =
     Head frame ∷ (all_lines names g courses orders ++ (all_joins names g courses orders ++ (all_markers style g courses ++ (labels ++ Tail ∷ []))))
 
--- the same where each name stands beside its marker
+-- the elements of a picture in which each name stands beside its marker
 abbrev pub elements : Style → Names → GraphParts → Courses → List (List LineId) → Bounds → List Element
 elements style names g courses orders frame = elements_with style names g courses orders frame (all_labels style names g courses)
 
@@ -220,7 +220,7 @@ grid_courses g walks = record {
 abbrev pub picture_text : Names → GraphParts → List PlainWalk → List (List LineId) → List ℕ
 picture_text names g walks orders = texts grid_style (elements grid_style names g (grid_courses g walks) orders (bounds_of walks))
 
--- the same where the head shows these bounds, and the names of stations stand at these places
+-- the picture's text where the head shows these bounds, and the names of stations stand at these places
 abbrev pub placed_text : Names → GraphParts → List PlainWalk → List (List LineId) → Bounds → List (Option Corner) → List ℕ
 placed_text names g walks orders frame spots =
     texts grid_style (elements_with grid_style names g (grid_courses g walks) orders frame (placed_labels names g spots))

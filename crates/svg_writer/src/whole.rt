@@ -67,8 +67,8 @@ pub fn picture(
     picture_of(alloc, grid_style(), graph, names, &drawn, orders, frame)
 }
 
-/// The same where it shows the bounds `frame`, and the names of stations begin at `spots`, one for each node: a name with
-/// no place is left off.
+/// The picture of a line graph on the grid within the bounds `frame`, where the names of stations begin at `spots`, one
+/// for each node: a name with no place is left off.
 pub fn picture_with(
     alloc: Global,
     graph: &LineGraph,

@@ -1,3 +1,5 @@
+//! Texts of certificates that are read, and written again byte by byte.
+
 use cert_file::{read_certificate, write_certificate};
 use std::test::Fail;
 

@@ -1,3 +1,5 @@
+//! A line that is written, and read word by word.
+
 use decimal_text::{end_line, front_line, push_natural, push_next_integer, push_next_natural};
 use std::test::Fail;
 

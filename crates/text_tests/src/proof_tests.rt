@@ -1,3 +1,5 @@
+//! Texts of proofs that are read, and written again byte by byte; trees of the greatest depth, and deeper ones.
+
 use map_base::NoMemory;
 use order_proof::{BadText, read_proof, write_proof};
 use std::alloc::Global;

@@ -67,7 +67,7 @@ trial_outcome trial = tried_on trial (trial_loaded trial)
 abbrev pub trial_work : ℕ → Work Input Refusal (List Output)
 trial_work trial = ends (trial_outcome trial)
 
--- the counter of steps rises by at most the branch nodes of the live trees of all parts of the trial's problem
+-- the counter of steps rises by at most the branch nodes of the searches of all parts of the trial's problem
 abbrev pub TakesTrialSteps : ℕ → ℕ → ℕ → Type 0
 TakesTrialSteps trial before now =
     (now ≡ before) ⊎ ((loaded : Loaded) × (trial_loaded trial ≡ Ok loaded) × (now ≤ before + branches_left [] loaded.tables loaded.settings loaded.method))

@@ -35,7 +35,7 @@ own_reason read c row = first_met (
     ∷ (read && is_none (sequence_in c row), BadWhole)
     ∷ [])
 
--- the same of the row at a place; the header stands at place 0
+-- the reasons that the row at a place has whatever stands in other rows; the header stands at place 0
 abbrev pub own_reason_at : List (List ℕ) → List Row → ℕ → Option Why
 own_reason_at named rows zero = header_reason (required_columns (shape_columns rows)) (row_at rows 0)
 own_reason_at named rows (suc n) = own_reason (is_read named (shape_columns rows) (row_at rows (suc n))) (shape_columns rows) (row_at rows (suc n))

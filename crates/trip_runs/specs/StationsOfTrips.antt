@@ -13,7 +13,7 @@ station_there stations place = slice_index_or stations place (record { 0 = 0 })
 abbrev pub stations_of_key : List StationId → List Entry → ℕ → List StationId
 stations_of_key stations entries key = map (station_there stations) (places_of entries key)
 
--- the same of each key below a number
+-- the stations of the entries of each key below a number, by rising sequences
 abbrev pub stations_by_key : List StationId → List Entry → ℕ → List (List StationId)
 stations_by_key stations entries zero = []
 stations_by_key stations entries (suc n) = stations_by_key stations entries n ++ stations_of_key stations entries n ∷ []

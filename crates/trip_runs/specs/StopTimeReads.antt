@@ -26,7 +26,7 @@ own_reason trips stops c row = first_met (
     ∷ (is_read trips c row && is_none (station_in stops c row), UnknownStop)
     ∷ [])
 
--- the same of the row at a place; the header stands at place 0
+-- the reasons that the row at a place has whatever stands in other rows; the header stands at place 0
 abbrev pub own_reason_at : KnownTrips → KnownStops → List Row → ℕ → Option Why
 own_reason_at trips stops rows zero = header_reason (required_columns (stop_time_columns rows)) (row_at rows 0)
 own_reason_at trips stops rows (suc n) = own_reason trips stops (stop_time_columns rows) (row_at rows (suc n))

@@ -90,6 +90,6 @@ trip_stations trips stops rows = map (stations_of_trip trips stops (stop_time_co
 abbrev pub stop_times_of : KnownTrips → KnownStops → List Row → Result (List (List StationId)) FeedFault
 stop_times_of trips stops rows = unless_bad tables.StopTimes (first_bad (stop_times_reason trips stops rows) rows) (trip_stations trips stops rows)
 
--- the same of the table's file, which has to be there
+-- the stations of each trip that the file of the table gives, which has to be there, or its first bad row
 abbrev pub stop_times_of_file : KnownTrips → KnownStops → Option (List ℕ) → Result (List (List StationId)) FeedFault
 stop_times_of_file trips stops file = required_rows tables.StopTimes file >>= stop_times_of trips stops

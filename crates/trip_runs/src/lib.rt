@@ -1,11 +1,9 @@
 //! How the trips of a GTFS feed run: the shapes that they follow and the stations that they serve, or the first bad
 //! row.
 //!
-//! `shapes.txt` and `stop_times.txt` (GTFS Schedule reference) are the two tables whose rows are brought in order by
-//! a sequence number; no number may stand twice in one shape or trip. Most of a feed's rows stand here, so
-//! `stop_times.txt` is read row by row. A row that can't be read is refused and never repaired: the answer is then
-//! the first bad row, with the least reason of `Why` that it meets. Each answer is exactly the one that `specs/`
-//! defines for the file's bytes.
+//! `shapes.txt` and `stop_times.txt` (GTFS Schedule reference) are the two tables whose rows are brought in order by a
+//! sequence number; no number may stand twice in one shape or trip. Most of a feed's rows stand here, so
+//! `stop_times.txt` is read row by row. Each answer is exactly the one that `specs/` defines for the file's bytes.
 #![tactic(auto)]
 
 mod first_refused;
