@@ -3,10 +3,10 @@ use Rattle.std.proofs.Common.{◌≡◌, ℕ, true, false, pos, negsuc, List, []
 use Rattle.map_base.specs.declared.limit.LimitKind.TheVariants as limit
 use Rattle.map_base.specs.declared.point.Point.{Point}
 use Rattle.grid_board.specs.declared.bounds.Bounds.{Bounds}
-use Rattle.node_homes.specs.declared.placing.Offset.{Offset}
-use Rattle.node_homes.specs.Cells.{cell_side, fine_cells, grid_of, is_too_fine, limit_of, offsets_of, root_up}
-use Rattle.node_homes.specs.Homes.{homes_of}
-use Rattle.node_homes.specs.Spreads.{even_place, spread_offsets}
+use Rattle.start_positions.specs.declared.placing.Offset.{Offset}
+use Rattle.start_positions.specs.Cells.{cell_side, fine_cells, grid_of, is_too_fine, limit_of, offsets_of, root_up}
+use Rattle.start_positions.specs.Homes.{homes_of}
+use Rattle.start_positions.specs.Spreads.{even_place, spread_offsets}
 
 abbrev places : List Point
 places = record { x = pos 0; y = pos 0 } ∷ record { x = pos 11132; y = pos 0 } ∷ []

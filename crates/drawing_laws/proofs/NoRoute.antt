@@ -8,12 +8,12 @@ use Rattle.octi_grid.specs.Legal.{legal}
 use Rattle.octi_grid.proofs.Members.{false_from, In}
 use Rattle.walk_search.specs.Moves.{is_all_or_none, Question, IsQuestion}
 use Rattle.walk_search.proofs.Best as best
-use Rattle.node_homes.specs.declared.placing.Placing.{Placing}
-use Rattle.node_homes.specs.Cells.{is_too_fine}
-use Rattle.node_homes.specs.Homes.{placing_at, IsPlacing}
-use Rattle.node_homes.specs.Spreads.{spread_offsets}
-use Rattle.node_homes.proofs.HomeFacts.{placing_fits}
-use Rattle.node_homes.proofs.SpreadLemmas.{spread_each}
+use Rattle.start_positions.specs.declared.placing.Placing.{Placing}
+use Rattle.start_positions.specs.Cells.{is_too_fine}
+use Rattle.start_positions.specs.Homes.{placing_at, IsPlacing}
+use Rattle.start_positions.specs.Spreads.{spread_offsets}
+use Rattle.start_positions.proofs.HomeFacts.{placing_fits}
+use Rattle.start_positions.proofs.SpreadLemmas.{spread_each}
 use Rattle.segment_router.specs.Orders.{routing_order}
 use Rattle.segment_router.specs.Routes.{after_route, begun, end_at, ends_of, is_settled, route_each, route_of, routes_from, walks_of, with_route, Routed}
 use Rattle.segment_router.proofs.LaidLemmas.{laid_more, IsLaid}

@@ -4,7 +4,7 @@ use Rattle.map_base.specs.declared.ids.SegId.{SegId}
 use Rattle.graph_core.specs.declared.parts.GraphParts.{GraphParts}
 use Rattle.octi_grid.specs.Walks.{PlainWalk}
 use Rattle.walk_search.specs.Routes.{is_free}
-use Rattle.node_homes.specs.declared.placing.Placing.{Placing}
+use Rattle.start_positions.specs.declared.placing.Placing.{Placing}
 use Rattle.segment_router.specs.Orders.{routing_order}
 use Rattle.segment_router.specs.Routes.{end_at, ends_of, routed_after, Routed}
 

@@ -6,10 +6,10 @@ ghost use Rattle.graph_core.specs.declared.parts.GraphParts.{GraphParts};
 ghost use Rattle.graph_core.specs.Consistent.{IsConsistent};
 ghost use Rattle.octi_grid.specs.Walks.{PlainWalk};
 ghost use Rattle.octi_grid.specs.Legal.{legal};
-ghost use Rattle.node_homes.specs.Cells.{is_too_fine};
-ghost use Rattle.node_homes.specs.declared.placing.Placing.{Placing};
-ghost use Rattle.node_homes.specs.Homes.{IsPlacing, placing_at};
-ghost use Rattle.node_homes.specs.Spreads.{spread_offsets};
+ghost use Rattle.start_positions.specs.Cells.{is_too_fine};
+ghost use Rattle.start_positions.specs.declared.placing.Placing.{Placing};
+ghost use Rattle.start_positions.specs.Homes.{IsPlacing, placing_at};
+ghost use Rattle.start_positions.specs.Spreads.{spread_offsets};
 ghost use Rattle.segment_router.specs.Routes.{routes_from};
 ghost use Rattle.drawing_laws.specs.Routing.{HasNoWalk};
 

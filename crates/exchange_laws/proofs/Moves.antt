@@ -13,10 +13,10 @@ use Rattle.octi_grid.specs.Walks.{PlainWalk}
 use Rattle.octi_grid.specs.Legal.{legs_of}
 use Rattle.grid_board.specs.declared.bounds.Bounds.{Bounds}
 use Rattle.grid_board.specs.Boards.{contains}
-use Rattle.node_homes.specs.declared.placing.Placing.{Placing}
-use Rattle.node_homes.specs.Cells.{limit_of}
-use Rattle.node_homes.specs.Homes.{placing_at}
-use Rattle.node_homes.specs.Spreads.{spread_offsets}
+use Rattle.start_positions.specs.declared.placing.Placing.{Placing}
+use Rattle.start_positions.specs.Cells.{limit_of}
+use Rattle.start_positions.specs.Homes.{placing_at}
+use Rattle.start_positions.specs.Spreads.{spread_offsets}
 use Rattle.walk_search.specs.Routes.{directions}
 use Rattle.segment_router.specs.Orders.{routing_order}
 use Rattle.segment_router.specs.Routes.{after_route, begun, route_each, route_of, walks_of, with_route, Routed}

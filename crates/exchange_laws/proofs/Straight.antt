@@ -9,7 +9,7 @@ use Rattle.graph_core.specs.declared.parts.GraphParts.{GraphParts}
 use Rattle.graph_core.specs.declared.parts.NodeKind.{NodeKind}
 use Rattle.octi_grid.specs.Walks.{PlainWalk, points_of}
 use Rattle.grid_board.specs.declared.bounds.Bounds.{Bounds}
-use Rattle.node_homes.specs.Cells.{cell_side}
+use Rattle.start_positions.specs.Cells.{cell_side}
 use Rattle.line_chains.specs.declared.chain.Chain.{Chain}
 use Rattle.line_chains.specs.declared.chain.ChainStep.{ChainStep}
 use Rattle.line_chains.specs.Chains.{chains_at, chains_by, chains_of, comes_over, far_end, is_corner, is_forward, is_reached, is_reached_from, nodes_along, nodes_of, other_of, plain_corners, ring_corners, round_of, steps_from, unless_ended, way_from, with_ring}

@@ -10,8 +10,8 @@ use Rattle.table_rows.specs.Cells.{Row}
 use Rattle.table_rows.specs.Values.{bare, number_of, degrees_of}
 use Rattle.stop_table.specs.declared.known.KnownStops.{KnownStops}
 use Rattle.route_tables.specs.declared.known.KnownTrips.{KnownTrips}
-use Rattle.trip_runs.specs.StopTimes.{stop_times_of}
-use Rattle.trip_runs.specs.Shapes.{shapes_of}
+use Rattle.sequence_tables.specs.StopTimes.{stop_times_of}
+use Rattle.sequence_tables.specs.Shapes.{shapes_of}
 
 abbrev at : ℕ → StationId
 at n = record { 0 = n }

@@ -1,7 +1,7 @@
 //! Stations of a feed that lie far from all others.
 
 use crate::paths::is_plain;
-use disk_door::DiskFiles;
+use disk_files::DiskFiles;
 use map_base::{NoMemory, Point};
 use message_texts::far_stations;
 use std::rt::Files;

@@ -3,7 +3,7 @@
 use crate::paths::{bytes_at, is_plain};
 use command_inputs::{Inputs, load, path_of};
 use command_words::Command;
-use disk_door::DiskFiles;
+use disk_files::DiskFiles;
 use graph_core::{LineGraph, NodeKind};
 use graph_json::{Imported, JsonFault, read_graph};
 use line_graph::build;

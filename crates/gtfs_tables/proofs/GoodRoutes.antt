@@ -16,7 +16,7 @@ use Rattle.route_tables.specs.declared.known.KnownRoutes.{KnownRoutes}
 use Rattle.route_tables.specs.declared.known.KnownTrips.{KnownTrips}
 use Rattle.route_tables.specs.declared.known.FeedRoutes.{FeedRoutes}
 use Rattle.gtfs_tables.specs.Good.{IsBelow, AreGoodRoutes, AreGoodTrips}
-use Rattle.trip_runs.specs.StopTimeReads.{AreNumbered}
+use Rattle.sequence_tables.specs.StopTimeReads.{AreNumbered}
 use Rattle.route_tables.specs.Routes.{route_columns, routes_reason, is_selected, selected_rows, lines_from, lines_of, known_routes, feed_routes}
 use Rattle.route_tables.specs.Trips.{trip_columns, trips_reason, line_in, shape_in, known_trips, trips_of}
 use Rattle.route_tables.proofs.RouteLemmas.{routes_new, length-lines_from}

@@ -11,11 +11,11 @@ use Rattle.table_rows.specs.Cells.{Row, field_in, ids_in}
 use Rattle.table_rows.specs.Reasons.{first_bad}
 use Rattle.table_rows.proofs.FirstLemmas.{filter-few, length-firsts}
 use Rattle.route_tables.specs.declared.known.KnownTrips.{KnownTrips}
-use Rattle.trip_runs.specs.declared.known.KnownShapes.{KnownShapes}
+use Rattle.sequence_tables.specs.declared.known.KnownShapes.{KnownShapes}
 use Rattle.gtfs_tables.specs.Good.{IsBelow, AreGoodTrips, AreGoodShapes}
 use Rattle.ordered_entries.specs.Rising.{by_rising}
 use Rattle.route_tables.specs.Trips.{is_named}
-use Rattle.trip_runs.specs.Shapes.{shape_columns, shapes_reason, sequence_in, point_in, rows_of_shape, points_of_shape, named_shapes, kept_shapes, shape_of, known_shapes, no_shapes, shapes_of_file}
+use Rattle.sequence_tables.specs.Shapes.{shape_columns, shapes_reason, sequence_in, point_in, rows_of_shape, points_of_shape, named_shapes, kept_shapes, shape_of, known_shapes, no_shapes, shapes_of_file}
 use Rattle.stop_table.proofs.PlacedLemmas.{within-bound}
 use Rattle.ordered_entries.proofs.RisingLists.{length-by_rising}
 use Rattle.gtfs_tables.proofs.GoodRoutes.{unless_bad-ok, all_of_map, is_below-place, few_behind}

@@ -19,7 +19,7 @@ use Rattle.route_tables.specs.declared.known.KnownTrips.{KnownTrips}
 use Rattle.gtfs_tables.specs.Good.{IsBelow, AreServed}
 use Rattle.stop_table.specs.Leads.{station_of_id}
 use Rattle.ordered_entries.specs.Rising.{by_rising}
-use Rattle.trip_runs.specs.StopTimes.{stop_time_columns, required_columns, is_read, sequence_in, station_in, is_repeated, stop_times_reason, rows_of_trip, station_at, stations_of_trip, trip_stations, stop_times_of, stop_times_of_file}
+use Rattle.sequence_tables.specs.StopTimes.{stop_time_columns, required_columns, is_read, sequence_in, station_in, is_repeated, stop_times_reason, rows_of_trip, station_at, stations_of_trip, trip_stations, stop_times_of, stop_times_of_file}
 use Rattle.table_rows.proofs.FirstLemmas.{filter-few}
 use Rattle.ordered_entries.proofs.RisingLists.{length-by_rising, all-by_rising}
 use Rattle.gtfs_tables.proofs.GoodRoutes.{unless_bad-ok, all_of_map, few_behind}

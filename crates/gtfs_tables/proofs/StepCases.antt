@@ -6,7 +6,7 @@ use Rattle.table_rows.specs.declared.fault.FeedFault.{FeedFault}
 use Rattle.table_rows.specs.Folder.{file_outcome}
 use Rattle.table_rows.specs.Outcome.{◌>>=◌}
 use Rattle.route_tables.specs.declared.known.KnownTrips.{KnownTrips}
-use Rattle.trip_runs.specs.declared.known.KnownShapes.{KnownShapes}
+use Rattle.sequence_tables.specs.declared.known.KnownShapes.{KnownShapes}
 use Rattle.route_tables.specs.declared.known.FeedRoutes.{FeedRoutes}
 use Rattle.stop_table.specs.declared.known.FeedStops.{FeedStops}
 use Rattle.gtfs_tables.specs.Feed.{Folder, table_outcome, before}
@@ -14,7 +14,7 @@ use Rattle.gtfs_tables.specs.Steps.{before_any, before_stops, before_trips, befo
 use Rattle.route_tables.specs.Routes.{feed_routes}
 use Rattle.stop_table.specs.Leads.{feed_stops}
 use Rattle.route_tables.specs.Trips.{trips_of}
-use Rattle.trip_runs.specs.Shapes.{shapes_of_file}
+use Rattle.sequence_tables.specs.Shapes.{shapes_of_file}
 use Rattle.gtfs_tables.proofs.StepLemmas.{folder_with}
 
 -- nothing is refused before a later table, where nothing is up to this one and behind it

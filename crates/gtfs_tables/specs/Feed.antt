@@ -12,14 +12,14 @@ use Rattle.table_rows.specs.Outcome.{◌>>=◌}
 use Rattle.route_tables.specs.declared.known.KnownRoutes.{KnownRoutes}
 use Rattle.stop_table.specs.declared.known.KnownStops.{KnownStops}
 use Rattle.route_tables.specs.declared.known.KnownTrips.{KnownTrips}
-use Rattle.trip_runs.specs.declared.known.KnownShapes.{KnownShapes}
+use Rattle.sequence_tables.specs.declared.known.KnownShapes.{KnownShapes}
 use Rattle.route_tables.specs.declared.known.FeedRoutes.{FeedRoutes}
 use Rattle.stop_table.specs.declared.known.FeedStops.{FeedStops}
 use Rattle.route_tables.specs.Routes.{feed_routes}
 use Rattle.stop_table.specs.Leads.{feed_stops}
 use Rattle.route_tables.specs.Trips.{trips_of}
-use Rattle.trip_runs.specs.Shapes.{shapes_of_file}
-use Rattle.trip_runs.specs.StopTimes.{stop_times_of}
+use Rattle.sequence_tables.specs.Shapes.{shapes_of_file}
+use Rattle.sequence_tables.specs.StopTimes.{stop_times_of}
 use Rattle.gtfs_tables.specs.Patterns.{patterns_of}
 
 -- The files of a folder by their tables: the bytes of each, if it is there.

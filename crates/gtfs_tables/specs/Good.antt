@@ -7,7 +7,7 @@ use Rattle.transit_feed.specs.Feeds.{AreFew, IsPlaced, IsShape}
 use Rattle.route_tables.specs.declared.known.FeedRoutes.{FeedRoutes}
 use Rattle.stop_table.specs.declared.known.FeedStops.{FeedStops}
 use Rattle.route_tables.specs.declared.known.KnownTrips.{KnownTrips}
-use Rattle.trip_runs.specs.declared.known.KnownShapes.{KnownShapes}
+use Rattle.sequence_tables.specs.declared.known.KnownShapes.{KnownShapes}
 use Rattle.stop_table.specs.Leads.{station_ids}
 
 -- a number, if it is there, is below a count

@@ -8,7 +8,7 @@ use Rattle.table_rows.specs.declared.fault.FeedFault.{FeedFault}
 use Rattle.table_rows.specs.Folder.{table_file}
 use Rattle.table_rows.specs.Outcome.{◌>>=◌}
 use Rattle.route_tables.specs.declared.known.KnownTrips.{KnownTrips}
-use Rattle.trip_runs.specs.declared.known.KnownShapes.{KnownShapes}
+use Rattle.sequence_tables.specs.declared.known.KnownShapes.{KnownShapes}
 use Rattle.route_tables.specs.declared.known.FeedRoutes.{FeedRoutes}
 use Rattle.stop_table.specs.declared.known.FeedStops.{FeedStops}
 use Rattle.gtfs_tables.specs.Feed.{Folder, routes_outcome, stops_table_outcome, trips_outcome, shapes_outcome, stop_times_outcome, feed_of}

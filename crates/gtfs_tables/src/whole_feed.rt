@@ -15,7 +15,7 @@ use std::alloc::Global;
 use stop_table::{FeedStops, stops_in};
 use table_rows::{FeedFault, Table};
 use transit_feed::Tables;
-use trip_runs::{KnownShapes, shapes_in_file, stop_times_in_file};
+use sequence_tables::{KnownShapes, shapes_in_file, stop_times_in_file};
 
 /// The feed of what the five tables gave.
 fn tables_of(

@@ -5,7 +5,7 @@ use Rattle.graph_core.specs.declared.parts.GraphParts.{GraphParts}
 use Rattle.octi_grid.specs.Walks.{PlainWalk}
 use Rattle.octi_grid.specs.Legal.{legal}
 use Rattle.grid_board.specs.Points.{are_near}
-use Rattle.node_homes.specs.Cells.{cell_side}
+use Rattle.start_positions.specs.Cells.{cell_side}
 use Rattle.segment_router.specs.declared.fault.RouteFault.{RouteFault}
 use Rattle.segment_router.specs.Routing.{route_outcome}
 use Rattle.kept_walks.specs.Straightening.{straightened}

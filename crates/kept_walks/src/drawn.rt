@@ -14,7 +14,7 @@ use crate::straightening::straighten;
 use graph_core::LineGraph;
 use map_base::NoMemory;
 use map_method::Spread;
-use node_homes::side_over;
+use start_positions::side_over;
 use octi_grid::Drawing;
 use segment_router::{RouteFault, route};
 use std::alloc::Global;

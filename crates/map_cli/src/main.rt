@@ -5,7 +5,7 @@
 ghost use Rattle.std.specs.Prelude.{◌≡◌, ◌<◌, ◌⊎◌, false, IsErrOf, OnOk};
 
 use command_words::{VERSION, asks_version, command_of, is_quiet};
-use disk_door::{DiskFiles, DiskLeads, DiskSinks, Stream, WriteError};
+use disk_files::{DiskFiles, DiskLeads, DiskSinks, Stream, WriteError};
 use files_door::{Files, Sinks, Stop};
 use map_base::{NoMemory, Progress, Stage, Steps};
 use map_run::run;

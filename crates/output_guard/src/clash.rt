@@ -10,7 +10,7 @@ use crate::outputs::{Outputs, outputs_of};
 use asked_inputs::{inputs_of, path_for};
 use command_paths::NewFiles;
 use command_words::Command;
-use disk_door::Leads;
+use disk_files::Leads;
 use map_base::{NoMemory, Text};
 use run_status::Input;
 use std::alloc::Global;

@@ -1,6 +1,6 @@
 //! The disk itself.
 
-use disk_door::{DiskFiles, DiskLeads, DiskSinks, Leads};
+use disk_files::{DiskFiles, DiskLeads, DiskSinks, Leads};
 use files_door::{DoorFault, Sinks, Stop, Target, read_all, write_all};
 use map_base::Text;
 use std::fs;

@@ -15,19 +15,19 @@ use Rattle.octi_grid.specs.Legal.{legal}
 use Rattle.grid_board.specs.Boards.{contains}
 use Rattle.grid_board.specs.Points.{are_near, is_near}
 use Rattle.segment_router.specs.declared.attempts.Attempt.{Attempt}
-use Rattle.node_homes.specs.declared.placing.Placing.{Placing}
-use Rattle.node_homes.specs.Cells.{cell_side, is_too_fine}
-use Rattle.node_homes.specs.Homes.{grid_under, placing_at}
+use Rattle.start_positions.specs.declared.placing.Placing.{Placing}
+use Rattle.start_positions.specs.Cells.{cell_side, is_too_fine}
+use Rattle.start_positions.specs.Homes.{grid_under, placing_at}
 use Rattle.segment_router.specs.Routes.{routes_from}
-use Rattle.node_homes.specs.Homes.{IsPlacing}
+use Rattle.start_positions.specs.Homes.{IsPlacing}
 use Rattle.segment_router.specs.Routing.{attempts_of, attempts_on, first_drawn, grids_upto, nothing_drawn, or_else, percents_of, routes_at, IsAttempt}
-use Rattle.node_homes.specs.Cells.{limit_found, limit_of}
-use Rattle.node_homes.specs.Spreads.{spread_offsets}
-use Rattle.node_homes.proofs.GridLemmas.{fine_enough, grid_near}
-use Rattle.node_homes.proofs.HomeFacts.{placing_fits}
+use Rattle.start_positions.specs.Cells.{limit_found, limit_of}
+use Rattle.start_positions.specs.Spreads.{spread_offsets}
+use Rattle.start_positions.proofs.GridLemmas.{fine_enough, grid_near}
+use Rattle.start_positions.proofs.HomeFacts.{placing_fits}
 use Rattle.segment_router.proofs.LegalRoutes.{legal_routes, route_each_segment}
 use Rattle.segment_router.proofs.NearRoutes.{routes_near}
-use Rattle.node_homes.proofs.SpreadLemmas.{of_mapped, spread_each}
+use Rattle.start_positions.proofs.SpreadLemmas.{of_mapped, spread_each}
 
 pub drawn_now : (graph : GraphParts) (cell : ℕ) (outcome : Result (List PlainWalk) SegId) (rest : List Attempt) → is_ok outcome ≡ true → first_drawn graph cell outcome rest ≡ outcome
 drawn_now graph cell (Ok walks) [] e = refl

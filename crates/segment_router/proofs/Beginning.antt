@@ -9,10 +9,10 @@ use Rattle.octi_grid.specs.Legal.{are_distinct, is_even}
 use Rattle.octi_grid.proofs.Members.{among_from, are_one-refl, In}
 use Rattle.grid_board.specs.declared.bounds.Bounds.{Bounds}
 use Rattle.grid_board.specs.Boards.{contains, empty_board, with_node, BoardParts}
-use Rattle.node_homes.specs.declared.placing.Placing.{Placing}
-use Rattle.node_homes.specs.Homes.{grid_under}
+use Rattle.start_positions.specs.declared.placing.Placing.{Placing}
+use Rattle.start_positions.specs.Homes.{grid_under}
 use Rattle.segment_router.specs.Routes.{none_routed, with_nodes}
-use Rattle.node_homes.specs.Homes.{IsPlacing}
+use Rattle.start_positions.specs.Homes.{IsPlacing}
 use Rattle.segment_router.specs.Underway.{IsUnderway}
 use Rattle.segment_router.proofs.Places.{all_place, in_at}
 

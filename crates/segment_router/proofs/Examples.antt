@@ -9,14 +9,14 @@ use Rattle.graph_core.specs.declared.parts.NodeKind.TheVariants as kind
 use Rattle.octi_grid.specs.declared.dir.Dir.TheVariants as dir
 use Rattle.octi_grid.specs.declared.point.GridPoint.{GridPoint}
 use Rattle.octi_grid.specs.Walks.{PlainWalk}
-use Rattle.node_homes.specs.declared.placing.Placing.{Placing}
+use Rattle.start_positions.specs.declared.placing.Placing.{Placing}
 use Rattle.map_method.specs.declared.spread.Spread.TheVariants.{Percent, Auto}
 use Rattle.segment_router.specs.declared.attempts.Attempt.{Attempt}
 use Rattle.segment_router.specs.Routing.{attempts_of}
 use Rattle.segment_router.specs.Ports.{allowed_mask, are_spaced, port_in}
 use Rattle.segment_router.specs.Orders.{routing_order}
 use Rattle.segment_router.specs.Routes.{begun, end_at, node_point, port_at_node, with_route, Routed}
-use Rattle.node_homes.specs.Homes.{IsPlacing}
+use Rattle.start_positions.specs.Homes.{IsPlacing}
 
 abbrev seg : ℕ → SegId
 seg n = record { 0 = n }

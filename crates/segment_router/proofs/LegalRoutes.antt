@@ -18,11 +18,11 @@ use Rattle.octi_grid.proofs.PortsLemmas.{ports_each, why_ports}
 use Rattle.grid_board.specs.declared.bounds.Bounds.{Bounds}
 use Rattle.grid_board.specs.Boards.{cells_of, doubled_bounds, empty_board, is_inside, with_node, AreBounds, BoardParts, IsBoard}
 use Rattle.grid_board.proofs.OnBoards.{kept_empty, shown_empty}
-use Rattle.node_homes.specs.declared.placing.Placing.{Placing}
-use Rattle.node_homes.specs.Homes.{grid_under}
+use Rattle.start_positions.specs.declared.placing.Placing.{Placing}
+use Rattle.start_positions.specs.Homes.{grid_under}
 use Rattle.segment_router.specs.Orders.{routing_order}
 use Rattle.segment_router.specs.Routes.{after_route, begun, ends_of, is_settled, node_point, port_at_node, port_by, route_each, route_of, routes_from, walk_at, walks_of, with_nodes, with_route, Routed}
-use Rattle.node_homes.specs.Homes.{IsPlacing}
+use Rattle.start_positions.specs.Homes.{IsPlacing}
 use Rattle.segment_router.proofs.Beginning.{nothing_there, underway_begins}
 use Rattle.segment_router.proofs.LaidLemmas.{laid_more, HasEnd, IsLaid}
 use Rattle.segment_router.proofs.LaidPorts.{clockwise_begins, clockwise_more, ports_agree, AreClockwise}

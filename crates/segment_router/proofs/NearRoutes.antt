@@ -9,8 +9,8 @@ use Rattle.octi_grid.specs.Walks.{points_of, PlainWalk}
 use Rattle.octi_grid.proofs.Members.{all_at, all_from, In}
 use Rattle.grid_board.specs.Boards.{contains, empty_board}
 use Rattle.grid_board.specs.Points.{are_near, is_near}
-use Rattle.node_homes.specs.declared.placing.Placing.{Placing}
-use Rattle.node_homes.specs.Homes.{grid_under, IsPlacing}
+use Rattle.start_positions.specs.declared.placing.Placing.{Placing}
+use Rattle.start_positions.specs.Homes.{grid_under, IsPlacing}
 use Rattle.segment_router.specs.Orders.{routing_order}
 use Rattle.segment_router.specs.Routes.{begun, route_each, routes_from, walk_at, walks_of, Routed}
 use Rattle.segment_router.proofs.Again.{again}

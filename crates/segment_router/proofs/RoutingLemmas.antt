@@ -26,7 +26,7 @@ use Rattle.walk_search.specs.Routes.{route}
 use Rattle.segment_router.specs.Routes.{after_route, end_at, ends_of, is_settled, node_point, route_each, route_of, with_nodes, with_route, with_settled, with_walked, Routed}
 use Rattle.segment_router.specs.Underway.{known_ports, with_known, GoesOn, IsUnderway}
 use Rattle.segment_router.specs.Orders.{routing_order}
-use Rattle.node_homes.proofs.CellLemmas.{same_bounds}
+use Rattle.start_positions.proofs.CellLemmas.{same_bounds}
 use Rattle.segment_router.proofs.MaskLemmas.{free_mask}
 use Rattle.segment_router.proofs.OrderFacts.{order_in}
 use Rattle.segment_router.proofs.Places.{in_at}

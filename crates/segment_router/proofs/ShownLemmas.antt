@@ -12,11 +12,11 @@ use Rattle.octi_grid.specs.Legal.{is_among}
 use Rattle.octi_grid.proofs.Members.{among_at, among_from, any_at, any_from, are_one-refl, not_among, one_point, same_test, In}
 use Rattle.grid_board.specs.Boards.{empty_board, with_node, BoardParts}
 use Rattle.walk_search.specs.Seats.{is_free_seat}
-use Rattle.node_homes.specs.declared.placing.Placing.{Placing}
-use Rattle.node_homes.specs.Homes.{grid_under}
+use Rattle.start_positions.specs.declared.placing.Placing.{Placing}
+use Rattle.start_positions.specs.Homes.{grid_under}
 use Rattle.segment_router.specs.Orders.{routing_order}
 use Rattle.segment_router.specs.Routes.{after_route, begun, ends_of, has_doubled, is_settled, node_point, route_each, route_of, routed_after, walk_at, with_nodes, with_route, Routed}
-use Rattle.node_homes.specs.Homes.{IsPlacing}
+use Rattle.start_positions.specs.Homes.{IsPlacing}
 use Rattle.segment_router.proofs.Beginning.{nothing_there, taken_stays}
 use Rattle.segment_router.proofs.ClearNodes.{walk_clear}
 use Rattle.segment_router.proofs.LaidLemmas.{laid_more, IsLaid}

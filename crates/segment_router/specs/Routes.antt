@@ -12,8 +12,8 @@ use Rattle.grid_board.specs.declared.bounds.Bounds.{Bounds}
 use Rattle.walk_search.specs.declared.ends.End.{End}
 use Rattle.grid_board.specs.Boards.{empty_board, with_node, with_node_moved, with_walk, BoardParts}
 use Rattle.walk_search.specs.Routes.{route}
-use Rattle.node_homes.specs.declared.placing.Placing.{Placing}
-use Rattle.node_homes.specs.Homes.{grid_under}
+use Rattle.start_positions.specs.declared.placing.Placing.{Placing}
+use Rattle.start_positions.specs.Homes.{grid_under}
 use Rattle.segment_router.specs.Ports.{allowed_mask}
 use Rattle.segment_router.specs.Orders.{routing_order}
 

@@ -10,9 +10,9 @@ use Rattle.octi_grid.specs.Walks.{PlainWalk}
 use Rattle.segment_router.specs.declared.fault.RouteFault.{RouteFault}
 use Rattle.segment_router.specs.declared.fault.RouteFault.TheVariants as fault
 use Rattle.segment_router.specs.declared.attempts.Attempt.{Attempt}
-use Rattle.node_homes.specs.Cells.{limit_of}
-use Rattle.node_homes.specs.Spreads.{spread_offsets}
-use Rattle.node_homes.specs.Homes.{placing_at}
+use Rattle.start_positions.specs.Cells.{limit_of}
+use Rattle.start_positions.specs.Spreads.{spread_offsets}
+use Rattle.start_positions.specs.Homes.{placing_at}
 use Rattle.segment_router.specs.Routes.{routes_from}
 
 -- the routes of an attempt

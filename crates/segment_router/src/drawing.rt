@@ -6,11 +6,11 @@ ghost use Rattle.graph_core.specs.Consistent.{IsConsistent};
 ghost use Rattle.octi_grid.specs.Legal.{legal};
 ghost use Rattle.grid_board.specs.Points.{are_near};
 ghost use Rattle.map_method.specs.Methods.{IsSpread};
-ghost use Rattle.node_homes.specs.Cells.{is_too_fine};
+ghost use Rattle.start_positions.specs.Cells.{is_too_fine};
 ghost use Rattle.segment_router.specs.Orders.{routing_order};
 ghost use Rattle.segment_router.specs.Routing.{first_drawn, nothing_drawn, outcome_of, route_outcome, routes_at, HasCause, IsAttempt};
-ghost use Rattle.node_homes.specs.Cells.{limit_of};
-ghost use Rattle.node_homes.specs.Spreads.{places_of};
+ghost use Rattle.start_positions.specs.Cells.{limit_of};
+ghost use Rattle.start_positions.specs.Spreads.{places_of};
 
 use crate::attempts::{Attempt, attempts_of};
 use crate::fault::RouteFault;
@@ -19,7 +19,7 @@ use crate::routing::routes_from;
 use graph_core::LineGraph;
 use map_base::{NoMemory, SegId, Sequence};
 use map_method::Spread;
-use node_homes::{Place, cells_over, place_spread, places_of};
+use start_positions::{Place, cells_over, place_spread, places_of};
 use octi_grid::{Drawing, Walk};
 use std::alloc::Global;
 

@@ -8,9 +8,9 @@ ghost use Rattle.octi_grid.specs.declared.point.GridPoint.{GridPoint};
 ghost use Rattle.octi_grid.specs.Walks.{PlainWalk};
 ghost use Rattle.octi_grid.specs.Legal.{is_among, legal};
 ghost use Rattle.walk_search.specs.Seats.{is_free_seat};
-ghost use Rattle.node_homes.specs.declared.placing.Placing.{Placing};
+ghost use Rattle.start_positions.specs.declared.placing.Placing.{Placing};
 ghost use Rattle.segment_router.specs.Routes.{has_doubled, is_settled, node_point, routed_after, routes_from, Routed};
-ghost use Rattle.node_homes.specs.Homes.{IsPlacing};
+ghost use Rattle.start_positions.specs.Homes.{IsPlacing};
 
 /// A law: where every segment of a graph has a route from a placing, the routes are a legal drawing, one for each
 /// segment. Each walk joins the points of its nodes, which are even and distinct; no doubled point is there twice, or

@@ -1,6 +1,6 @@
 //! Files that are not there, can't be read, or can't be written.
 
-use disk_door::WriteError;
+use disk_files::WriteError;
 use file_lookup::{is_folder, read_fault};
 use map_base::NoMemory;
 use message_texts::quoted;

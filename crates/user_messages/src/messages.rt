@@ -12,7 +12,7 @@ use crate::refuted::refuted;
 use asked_inputs::inputs_of;
 use command_inputs::Inputs;
 use command_words::{Command, command_of};
-use disk_door::WriteError;
+use disk_files::WriteError;
 use map_base::NoMemory;
 use run_status::Status;
 use std::alloc::Global;

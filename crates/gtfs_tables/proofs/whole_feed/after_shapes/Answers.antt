@@ -7,13 +7,13 @@ use Rattle.table_rows.specs.Outcome.{◌>>=◌, Answers, never}
 use Rattle.table_rows.specs.Folder.{file_outcome, required_rows}
 use Rattle.table_rows.specs.declared.fault.FeedFault.{FeedFault}
 use Rattle.route_tables.specs.declared.known.KnownTrips.{KnownTrips}
-use Rattle.trip_runs.specs.declared.known.KnownShapes.{KnownShapes}
+use Rattle.sequence_tables.specs.declared.known.KnownShapes.{KnownShapes}
 use Rattle.route_tables.specs.declared.known.FeedRoutes.{FeedRoutes}
 use Rattle.stop_table.specs.declared.known.FeedStops.{FeedStops}
 use Rattle.gtfs_tables.specs.Feed.{table_outcome, feed_of}
 use Rattle.gtfs_tables.specs.Steps.{FailsAt, feed_after_shapes, before_stop_times}
 use Rattle.gtfs_tables.specs.Good.{AreServed}
-use Rattle.trip_runs.specs.StopTimes.{stop_times_of, stop_times_of_file}
+use Rattle.sequence_tables.specs.StopTimes.{stop_times_of, stop_times_of_file}
 use Rattle.gtfs_tables.proofs.StepLemmas.{step_unread, step_refused, step_went_on, of_any_folder, answers_never}
 use Rattle.gtfs_tables.proofs.GoodRoutes.{numbered}
 use Rattle.gtfs_tables.proofs.GoodStations.{good_stations_of_file}

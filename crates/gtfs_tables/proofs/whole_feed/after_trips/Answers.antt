@@ -5,7 +5,7 @@ use Rattle.table_rows.specs.declared.why.Table.TheVariants as tables
 use Rattle.table_rows.specs.Outcome.{Answers}
 use Rattle.table_rows.specs.Folder.{file_outcome}
 use Rattle.gtfs_tables.specs.Steps.{OfFolder, FailsAt, feed_after_trips, feed_after_shapes, before_shapes, before_stop_times}
-use Rattle.trip_runs.specs.Shapes.{shapes_of_file}
+use Rattle.sequence_tables.specs.Shapes.{shapes_of_file}
 use Rattle.gtfs_tables.proofs.StepLemmas.{step_unread, step_refused, step_went_on}
 use Rattle.gtfs_tables.proofs.StepCases.{shapes_later}
 use Rattle.gtfs_tables.proofs.GoodShapes.{good_shapes}

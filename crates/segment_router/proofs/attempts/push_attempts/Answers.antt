@@ -1,7 +1,7 @@
 use Rattle.std.proofs.Common.{◌+◌, ◌++◌, ℕ, List, drop, ap, ◌∙◌}
 use Rattle.segment_router.specs.declared.attempts.Attempt.{Attempt}
 use Rattle.segment_router.specs.Routing.{attempts_on}
-use Rattle.node_homes.proofs.SpreadLemmas.{map_more}
+use Rattle.start_positions.proofs.SpreadLemmas.{map_more}
 use Rattle.segment_router.proofs.attempts.push_attempts.Goals as goal
 
 pub loop-percent-preserved : goal.loop-percent-preserved

@@ -1,8 +1,8 @@
 use Rattle.std.proofs.Common.{sym, subst}
-use Rattle.node_homes.specs.Homes.{IsPlacing}
-use Rattle.node_homes.specs.Spreads.{spread_offsets}
+use Rattle.start_positions.specs.Homes.{IsPlacing}
+use Rattle.start_positions.specs.Spreads.{spread_offsets}
 use Rattle.segment_router.proofs.AttemptLemmas.{one_offset_each}
-use Rattle.node_homes.proofs.HomeFacts.{placing_fits}
+use Rattle.start_positions.proofs.HomeFacts.{placing_fits}
 use Rattle.segment_router.proofs.drawing.routes_at.Goals as goal
 
 pub routes_from-requires-clause-placing : goal.routes_from-requires-clause-placing

@@ -3,7 +3,7 @@ use Rattle.std.proofs.lemmas.List.{drop_all}
 use Rattle.map_base.specs.declared.ids.SegId.{SegId}
 use Rattle.octi_grid.specs.declared.point.GridPoint.{GridPoint}
 use Rattle.grid_board.specs.declared.bounds.Bounds.{Bounds}
-use Rattle.node_homes.specs.Homes.{grid_under}
+use Rattle.start_positions.specs.Homes.{grid_under}
 use Rattle.segment_router.specs.Routes.{none_routed, route_each, walks_of, Routed}
 use Rattle.segment_router.specs.Underway.{routed_of, GoesOn, IsUnderway}
 use Rattle.segment_router.proofs.Beginning.{underway_begins}

@@ -1,5 +1,5 @@
 use Rattle.std.proofs.Common.{◌≡◌, drop, length}
-use Rattle.node_homes.specs.Homes.{grid_under}
+use Rattle.start_positions.specs.Homes.{grid_under}
 use Rattle.segment_router.specs.Orders.{routing_order}
 use Rattle.segment_router.specs.Routes.{none_routed, route_each}
 use Rattle.segment_router.specs.Underway.{routed_of, IsUnderway}

@@ -1,6 +1,0 @@
-use Rattle.std.proofs.Common.{◌≡◌, ◌++◌, drop, map}
-use Rattle.node_homes.specs.Cells.{offset_of, offsets_of}
-use Rattle.node_homes.proofs.cells.offsets_of.Given as goal
-
-abbrev pub invariant-loop-n : goal.invariant-loop-n
-invariant-loop-n l = l.offsets.items ++ map (offset_of l.graph.places) (drop l.n l.graph.places) ≡ offsets_of l.graph.places

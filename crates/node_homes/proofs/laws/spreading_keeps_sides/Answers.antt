@@ -1,5 +1,0 @@
-use Rattle.node_homes.proofs.SpreadLemmas.{not_spread, sides_kept}
-use Rattle.node_homes.proofs.laws.spreading_keeps_sides.Goals as goal
-
-pub returns : goal.returns
-returns c = record { sides = sides_kept; none = not_spread }

@@ -1,9 +1,0 @@
-use Rattle.std.proofs.Common.{◌≡◌, ◌++◌, map, drop}
-use Rattle.node_homes.specs.Spreads.{place_among}
-use Rattle.node_homes.proofs.spreading.places_by.Given as goal
-
--- the places so far, and those that are left
-abbrev pub invariant-loop-offset : goal.invariant-loop-offset
-invariant-loop-offset l =
-    l.places.items ++ map (place_among l.extents.width l.extents.height l.offsets) (drop l.offset-index l.offsets)
-    ≡ map (place_among l.extents.width l.extents.height l.offsets) l.offsets

@@ -1,5 +1,0 @@
-use Rattle.order_model.specs.Prefixes.{IsPrefixOf}
-use Rattle.order_rows.proofs.bound_tests.chosen_in.Given as goal
-
-abbrev pub invariant-loop-seg : goal.invariant-loop-seg
-invariant-loop-seg l = IsPrefixOf l.problem.segs l.prefix

@@ -1,6 +1,0 @@
-use Rattle.std.proofs.Common.{◌+◌, arith, refl}
-use Rattle.trip_runs.proofs.PlaceRunLemmas.{longer_run}
-use Rattle.trip_runs.proofs.places.longer.Goals as goal
-
-pub returns : goal.returns
-returns c = longer_run c.args.run.first c.args.run.count (c.args.run.count + 1) c.args.place refl (omega arith)

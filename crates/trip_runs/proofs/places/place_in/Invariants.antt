@@ -1,6 +1,0 @@
-use Rattle.std.proofs.Common.{◌≡◌, ◌+◌}
-use Rattle.trip_runs.proofs.PlaceRunLemmas.{places_before_run}
-use Rattle.trip_runs.proofs.places.place_in.Given as goal
-
-abbrev pub invariant-loop-k : goal.invariant-loop-k
-invariant-loop-k l = l.index ≡ places_before_run l.runs l.k + l.left

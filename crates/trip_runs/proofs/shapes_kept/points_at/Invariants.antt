@@ -1,6 +1,0 @@
-use Rattle.std.proofs.Common.{◌≡◌, map, take}
-use Rattle.trip_runs.specs.KeptShapes.{point_there}
-use Rattle.trip_runs.proofs.shapes_kept.points_at.Given as goal
-
-abbrev pub invariant-loop-k : goal.invariant-loop-k
-invariant-loop-k l = l.found.items ≡ map (point_there l.points) (take l.k l.places)
