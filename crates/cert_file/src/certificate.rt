@@ -2,8 +2,8 @@
 
 use map_base::{LineId, Sequence};
 use octi_grid::Walk;
-use order_values::Orders;
 use order_proof::Proof;
+use order_values::Orders;
 
 /// What shows a map to be one of its line graph: the walk and the order of each segment, what the orders cost, and the
 /// proof of a cost that none is below.

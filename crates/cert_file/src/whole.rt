@@ -15,8 +15,8 @@ use crate::counts::Counts;
 use crate::reading::{read_counts, read_version};
 use decimal_text::{BadText, Stop, bad_text};
 use map_base::Sequence;
-use order_values::Orders;
 use order_proof::{Proof, read_proof};
+use order_values::Orders;
 use std::alloc::Global;
 
 /// What stands before the proof.

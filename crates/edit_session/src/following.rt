@@ -13,10 +13,10 @@ ghost use Rattle.edit_session.specs.Stages.{EndsEdit, EndsLine, IsDrawn, branche
 
 use crate::drawn::text_of_draw;
 use crate::session::Session;
+use command_run::write_piece;
 use files_door::{Sinks, Stop};
 use map_base::Steps;
 use map_edits::{Edit, EditStop, ScriptLine, next_line, read_script_line};
-use command_run::write_piece;
 use std::alloc::Global;
 use std::sync::ledger::Ledger;
 

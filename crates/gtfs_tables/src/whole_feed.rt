@@ -11,11 +11,11 @@ use crate::table_file::{file_in, rows_in};
 use files_door::Files;
 use map_base::{Sequence, StationId};
 use route_tables::{FeedRoutes, KnownTrips, routes_in, trips_in};
+use sequence_tables::{KnownShapes, shapes_in_file, stop_times_in_file};
 use std::alloc::Global;
 use stop_table::{FeedStops, stops_in};
 use table_rows::{FeedFault, Table};
 use transit_feed::Tables;
-use sequence_tables::{KnownShapes, shapes_in_file, stop_times_in_file};
 
 /// The feed of what the five tables gave.
 fn tables_of(

@@ -5,8 +5,8 @@ ghost use Rattle.order_proof.specs.Plain.{plain_part_tree};
 ghost use Rattle.kept_trees.specs.Renumbered.{is_by_pairs};
 
 use map_method::Claim;
-use order_values::Orders;
 use order_proof::PartTree;
+use order_values::Orders;
 
 /// What is found of a part.
 #[derive(Debug, Drop)]

@@ -14,9 +14,9 @@ use crate::straightening::straighten;
 use graph_core::LineGraph;
 use map_base::NoMemory;
 use map_method::Spread;
-use start_positions::side_over;
 use octi_grid::Drawing;
 use segment_router::{RouteFault, route};
+use start_positions::side_over;
 use std::alloc::Global;
 use std::marker::Model;
 

@@ -1,8 +1,8 @@
 //! What a search finds, and why it stops.
 
 use map_base::{Limit, NoMemory};
-use order_values::Orders;
 use order_proof::Tree;
+use order_values::Orders;
 use std::alloc::{AllocError, AllocFailed};
 
 /// Orders of a part that cost least, and the tree that shows it.

@@ -19,8 +19,8 @@ use crate::routing::routes_from;
 use graph_core::LineGraph;
 use map_base::{NoMemory, SegId, Sequence};
 use map_method::Spread;
-use start_positions::{Place, cells_over, place_spread, places_of};
 use octi_grid::{Drawing, Walk};
+use start_positions::{Place, cells_over, place_spread, places_of};
 use std::alloc::Global;
 
 /// The drawing of a line graph on cells of a side in decimetres, or of a fiftieth of its extent for 0: the routes of its

@@ -15,7 +15,7 @@ mod routing;
 pub use drawing::route;
 pub use fault::RouteFault;
 pub use laws::{homes_stay_free, routes_are_legal, the_board_shows_nodes_and_walks};
-pub use start_positions::{Offset, Placing, place, spreading_keeps_sides};
 pub use ports::allowed_ports;
 pub use rerouting::routes_again;
 pub use routing::{into_walks, no_walks, port_of, push_port};
+pub use start_positions::{Offset, Placing, place, spreading_keeps_sides};

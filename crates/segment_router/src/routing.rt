@@ -16,8 +16,8 @@ use crate::ports::allowed_ports;
 use graph_core::LineGraph;
 use grid_board::{Board, Bounds};
 use map_base::{NoMemory, NodeId, SegId};
-use start_positions::Placing;
 use octi_grid::{Dir, GridPoint, Walk, end_of};
+use start_positions::Placing;
 use std::alloc::Global;
 use walk_search::least_settled_walk;
 
