@@ -34,7 +34,7 @@ _octimap()
         session) options='--quiet --settings --set --help' kinds=(folder file file) ;;
         graph) options='--quiet --settings --set --edits --help' kinds=(folder) ;;
         export) options='--quiet --settings --set --edits --help' kinds=(folder file) ;;
-        import) options='--quiet --settings --set --help' kinds=(none svg file) ;;
+        import) options='--quiet --settings --set --help' kinds=(json svg file) ;;
         stations) options='--quiet --help' kinds=(folder) ;;
         page) options='--quiet --help' kinds=(svg html) ;;
         trial) options='--quiet --help' kinds=(none) ;;

@@ -122,6 +122,7 @@ complete -c octimap -n '__octimap_at export 2' -F
 complete -c octimap -n '__octimap_in import' -s q -l quiet -d 'Leave out the lines on standard error that say more than the status'
 complete -c octimap -n '__octimap_in import' -l settings -r -F -d 'A file of settings in TOML, such as examples/settings.toml'
 complete -c octimap -n '__octimap_in import' -l set -r -d 'A key of the settings in place of that of the file, as often as wanted, such as near=400'
+complete -c octimap -n '__octimap_at import 1' -a '(__octimap_files json)'
 complete -c octimap -n '__octimap_at import 2' -a '(__octimap_files svg)'
 complete -c octimap -n '__octimap_at import 3' -F
 complete -c octimap -n '__octimap_in stations' -s q -l quiet -d 'Leave out the lines on standard error that say more than the status'

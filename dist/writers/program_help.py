@@ -4,7 +4,7 @@ import subprocess
 from dataclasses import dataclass, field
 
 # operands and values whose name is the ending of their files
-ENDINGS = {"SVG": "svg", "HTML": "html"}
+ENDINGS = {"SVG": "svg", "HTML": "html", "JSON": "json"}
 
 
 @dataclass
@@ -37,10 +37,12 @@ class Entry:
     @property
     def kind(self):
         """What is to be completed: a folder, a file, files with an ending (by their ending), or nothing."""
+        if self.value in ENDINGS:
+            return ENDINGS[self.value]
         if re.match(r"(The|A) folder\b", self.about):
             return "folder"
         if re.match(r"(The|A) file\b", self.about):
-            return ENDINGS.get(self.value, "file")
+            return "file"
         return "none"
 
 
