@@ -25,7 +25,7 @@ pub fn importance_of(
     )
 }
 
-/// The same, with what a map of the line graph asks of these numbers.
+/// The numbers of `importance_of`, with what a map of the line graph asks of them.
 pub(crate) fn line_numbers(
     alloc: Global,
     tables: &Tables,
@@ -42,7 +42,7 @@ pub(crate) fn line_numbers(
     Ok(numbers)
 }
 
-/// The same by pairs of an id and a number.
+/// How much each line counts, by pairs of an id and a number.
 fn importance_in(alloc: Global, lines: &[Line], pairs: &[(Text, u32)]) -> Result<Vec<u32>, NoMemory>
     ensures { IfOk result (λ numbers. numbers.items
         ≡ map (λ (l : FeedLine). importance_among pairs.now l.id) lines.now) }

@@ -9,7 +9,7 @@ use Rattle.map_engine.specs.Tables.{subject_of}
 use Rattle.map_engine.specs.Labelling.{IsLabelledMap}
 use Rattle.map_engine.proofs.ImportanceLemmas.{told_of, subject_is}
 use Rattle.map_engine.proofs.FeedMaps.{labelled_of}
-use Rattle.map_engine.proofs.labelled.labels_on_graph.Goals as goal
+use Rattle.map_engine.proofs.pictures.labels_on_graph.Goals as goal
 
 pub labels_from-requires : goal.labels_from-requires
 labels_from-requires c =
