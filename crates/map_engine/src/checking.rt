@@ -84,7 +84,7 @@ pub fn check_on_graph(
         checked.proved) }
 {
     let names = names_of(alloc, tables)?;
-    let importance = line_numbers(alloc, tables, settings)?;
+    let importance = line_numbers(alloc, tables, settings, graph)?;
     check_from(
         alloc,
         graph,

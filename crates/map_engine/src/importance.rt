@@ -1,10 +1,13 @@
 //! How much each line counts.
 
-ghost use Rattle.std.specs.Prelude.{◌≡◌, ◌<◌, ◌^◌, length, map, All, IfOk};
+ghost use Rattle.std.specs.Prelude.{◌≡◌, ◌<◌, ◌^◌, length, map, All, IfOk, Ok};
 ghost use Rattle.map_base.specs.Settings.{IsImportance};
 ghost use Rattle.transit_feed.specs.declared.line.Line.{Line as FeedLine};
+ghost use Rattle.line_graph.specs.Outcome.{graph_outcome};
+ghost use Rattle.graph_maps.specs.Subjects.{AreListed};
 ghost use Rattle.map_engine.specs.Tables.{importance_among, importance_by};
 
+use graph_core::LineGraph;
 use map_base::{NoMemory, Settings, Text};
 use std::alloc::Global;
 use transit_feed::{Line, Tables};
@@ -30,9 +33,12 @@ pub(crate) fn line_numbers(
     alloc: Global,
     tables: &Tables,
     settings: &Settings,
+    graph: &LineGraph,
 ) -> Result<Vec<u32>, NoMemory>
+    requires { graph_outcome settings.now.near tables.now ≡ Ok graph.now }
     ensures value { IfOk result (λ numbers. numbers.items ≡ importance_by tables.now settings.now) }
     ensures range { IfOk result (λ numbers. All IsImportance numbers.items) }
+    ensures lines { IfOk result (λ numbers. AreListed numbers.items graph.now) }
     ensures few { IfOk result (λ numbers. length numbers.items < 2 ^ 32) }
 {
     // What is read of tables and settings tells their laws.

@@ -3,8 +3,8 @@
 //! `make` builds the feed's line graph, and makes the map of it by the names of the feed's stations and lines and by
 //! how much each line counts (`make_from` of graph_maps). `check` says yes only where the drawing is legal, no line
 //! orders cost less than it proves and the map is the picture that is due, whoever made them; else it names the first
-//! item that is refused. `Kept` holds what was found of the parts of a problem from one map to the next, so that no part
-//! is searched twice, and `LastDrawing` the line graph and the drawing that were made last; neither ever changes a byte.
+//! item that is refused. `Kept` holds what was found of the parts of a problem from one map to the next, so that none
+//! is searched twice, and `LastDrawing` the line graph and the drawing that were made last; neither changes a byte.
 #![tactic(auto)]
 
 mod checking;

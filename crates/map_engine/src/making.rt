@@ -73,7 +73,7 @@ pub fn make_again<L: Ledger>(
     Ok(improved.map)
 }
 
-/// The map that `make_again` makes, and its certificate, after at most so many moves more on its drawing, and what these
+/// The map that `make_again` makes, and its certificate, after at most so many moves more on its drawing, and what they
 /// made of it. The line orders stay, and so does their proof. There is no map exactly where `make` makes none, for the
 /// same cause.
 pub fn make_improved<L: Ledger>(
@@ -158,7 +158,7 @@ fn improved_on_graph<L: Ledger>(
     ensures steps { steps.new ≤ steps.old + branches_left kept.old tables.now settings.now method.now }
 {
     let names = names_of(alloc, tables)?;
-    let importance = line_numbers(alloc, tables, settings)?;
+    let importance = line_numbers(alloc, tables, settings, graph)?;
     make_improved_from(
         alloc,
         graph,

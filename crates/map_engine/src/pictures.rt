@@ -43,7 +43,7 @@ pub fn labels_on_graph(
     ensures certified { IfOk result (λ map. IsLabelledMap tables.now settings.now claim map.items certificate.now) }
 {
     let names = names_of(alloc, tables)?;
-    let importance = line_numbers(alloc, tables, settings)?;
+    let importance = line_numbers(alloc, tables, settings, graph)?;
     labels_from(
         alloc,
         graph,
@@ -56,9 +56,9 @@ pub fn labels_on_graph(
 }
 
 /// The map of a feed over the courses of its segments, as they lie in the plane (SVG 1.1), by the line graph of its
-/// tables, these courses and a certificate. All of the certificate is checked as `check_certificate` does, with the same
-/// refusals: so the map shows exactly the line graph of the feed, with line orders of which the certificate proves what
-/// is claimed.
+/// tables, these courses and a certificate. All of the certificate is checked as `check_certificate` does, with the
+/// same refusals: so the map shows exactly the line graph of the feed, with line orders of which the certificate proves
+/// what is claimed.
 pub fn geo_on_graph(
     alloc: Global,
     tables: &Tables,
@@ -77,7 +77,7 @@ pub fn geo_on_graph(
     ensures certified { IfOk result (λ map. IsGeographicMap tables.now settings.now claim map.items certificate.now) }
 {
     let names = names_of(alloc, tables)?;
-    let importance = line_numbers(alloc, tables, settings)?;
+    let importance = line_numbers(alloc, tables, settings, graph)?;
     let checked = checked_certificate(
         alloc,
         graph,
@@ -107,7 +107,7 @@ pub fn poster_on_graph(
     ensures certified { IfOk result (λ map. IsPoster tables.now settings.now claim map.items certificate.now) }
 {
     let names = names_of(alloc, tables)?;
-    let importance = line_numbers(alloc, tables, settings)?;
+    let importance = line_numbers(alloc, tables, settings, graph)?;
     let checked = checked_certificate(
         alloc,
         graph,

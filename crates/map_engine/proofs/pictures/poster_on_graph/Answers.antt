@@ -12,16 +12,8 @@ use Rattle.graph_maps.specs.Checking.{AcceptedMap, accepted_map, accepted_text, 
 use Rattle.graph_maps.specs.Promises.{IsAcceptedOn}
 use Rattle.graph_maps.proofs.Accepted.{accepted_made, certified_by, refused_made}
 use Rattle.map_engine.specs.Tables.{importance_by, names_by, subject_of}
-use Rattle.map_engine.proofs.ImportanceLemmas.{told_of}
 use Rattle.map_engine.proofs.FeedMaps.{certified_of}
 use Rattle.map_engine.proofs.pictures.poster_on_graph.Goals as goal
-
-pub checked_certificate-requires : goal.checked_certificate-requires
-checked_certificate-requires c =
-    let told = told_of c.args.tables.now c.args.settings.now c.args.graph.now c.requires.graph
-    c.in_ok-importance.importance.items c.as_slice.result.now c.as_slice.ensures.value c.in_ok-importance.ensures.value
-    c.in_ok-importance.ensures.range c.in_ok-importance.ensures.few in
-    record { numbers = told.numbers; lines = told.lines; few = told.few }
 
 pub returns-in_err-checked-clause-outcome : goal.returns-in_err-checked-clause-outcome
 returns-in_err-checked-clause-outcome c =
