@@ -17,7 +17,7 @@ use command_paths::MapFiles;
 use command_run::Output;
 use files_door::Files;
 use map_base::{Sequence, Stage, Steps};
-use map_engine::{Kept, make_improved};
+use map_engine::{Kept, LastDrawing, make_improved};
 use run_status::Refusal;
 use std::alloc::Global;
 use std::sync::ledger::Ledger;
@@ -66,6 +66,7 @@ fn improved_of<L: Ledger>(
         &loaded.settings,
         &loaded.method,
         moves,
+        &mut LastDrawing::never(),
         &mut kept,
         steps,
     )?;

@@ -12,7 +12,7 @@ use Rattle.line_graph.specs.Outcome.{graph_outcome}
 use Rattle.line_graph.proofs.FeedLines.{lines_of_feed}
 use Rattle.svg_writer.specs.declared.names.Names.{Names}
 use Rattle.graph_maps.specs.Subjects.{told_by, AreListed}
-use Rattle.map_engine.specs.Tables.{importance_among, importance_by, names_by, subject_of, AreOfFeed}
+use Rattle.map_engine.specs.Tables.{importance_among, importance_by, names_by, subject_of}
 
 -- the number of a pair
 abbrev HasNumber : List ℕ × ℕ → Type 0
@@ -29,12 +29,6 @@ among_in_range (p ∷ pairs) id all = by_test (bytes_eq p.0 id) (All-head HasNum
     by_test true here rest = here
     by_test false here rest = rest
 
--- what a map of a line graph asks of how much its lines count
-pub record AreTold (graph : GraphParts) (told : List ℕ) : Type 0 where
-  pub numbers : All IsImportance told
-  pub lines : AreListed told graph
-  pub few : length told < 2 ^ 32
-
 module _ (feed : Feed) (choices : Choices) where
   abbrev number : Line → ℕ
   number l = importance_among choices.importance l.id
@@ -46,20 +40,10 @@ module _ (feed : Feed) (choices : Choices) where
   pub few_in : length feed.lines < 2 ^ 32 → length (importance_by feed choices) < 2 ^ 32
   few_in few = omega (arith, few, length-map feed.lines number)
 
-  listed_in : (graph : GraphParts) (numbers : List ℕ) → numbers ≡ importance_by feed choices → AreOfFeed feed graph
-      → AreListed numbers graph
-  listed_in graph numbers are of_feed = subst (λ (ns : List ℕ). AreListed ns graph) (sym are)
-      (subst (λ (n : ℕ). All (All (λ (a : LineId). a.0 < n)) graph.lines) (sym (length-map feed.lines number)) of_feed)
-
-  -- so a map of the feed's line graph may be told of them
-  pub told_of : (graph : GraphParts) → graph_outcome choices.near feed ≡ Ok graph → (numbers told : List ℕ)
-      → told ≡ numbers → numbers ≡ importance_by feed choices → All IsImportance numbers → length numbers < 2 ^ 32
-      → AreTold graph told
-  told_of graph made numbers told same are range few = record {
-    numbers = subst (All IsImportance) (sym same) range;
-    lines = listed_in graph told (same ∙ are) (lines_of_feed choices.near feed graph made);
-    few = omega (arith, few, ap length same);
-  }
+  pub listed_in : (graph : GraphParts) → graph_outcome choices.near feed ≡ Ok graph
+      → AreListed (importance_by feed choices) graph
+  listed_in graph made = subst (λ (n : ℕ). All (All (λ (a : LineId). a.0 < n)) graph.lines)
+      (sym (length-map feed.lines number)) (lines_of_feed choices.near feed graph made)
 
   pub subject_is : (names : Names) (numbers : List ℕ) → names ≡ names_by feed → numbers ≡ importance_by feed choices
       → told_by names numbers ≡ subject_of feed choices

@@ -5,27 +5,17 @@ use Rattle.map_base.specs.declared.limit.Limit.{Limit}
 use Rattle.map_base.specs.Settings.{Choices}
 use Rattle.transit_feed.specs.Feeds.{Feed}
 use Rattle.graph_core.specs.declared.parts.GraphParts.{GraphParts}
-use Rattle.line_graph.specs.Outcome.{graph_outcome}
 use Rattle.line_graph.specs.SegmentLines.{lines_outcome}
 use Rattle.geo_map.specs.GeoMap.{geographic_text}
 use Rattle.cert_file.specs.Plain.{PlainCertificate}
-use Rattle.map_faults.specs.declared.fault.CheckFault.{CheckFault}
-use Rattle.map_faults.specs.declared.fault.CheckFault.TheVariants as fault
 use Rattle.map_engine.specs.Tables.{names_by}
 use Rattle.map_engine.specs.Promises.{IsCertified}
-use Rattle.map_engine.specs.Labelling.{pictured_items}
 use Rattle.graph_maps.specs.declared.checked.Proved.{Proved}
 use Rattle.map_method.specs.declared.claim.Claim.{Claim}
 
 -- the orders of a certificate as a map over the courses of segments
 abbrev pub geographic_by : Feed → GraphParts → List (List Point) → PlainCertificate → List ℕ
 geographic_by feed graph lines c = geographic_text (names_by feed) graph lines c.orders
-
--- this map, or why the certificate is not accepted
-abbrev pub geographic_items : Feed → Choices → Claim → GraphParts → List (List Point) → Result PlainCertificate ℕ
-    → Result (List ℕ) CheckFault
-geographic_items feed choices claim graph lines read = pictured_items
-    (geographic_by feed graph lines) feed choices claim graph read
 
 -- the courses of a feed's segments, none where the graph is over a limit
 abbrev pub lines_or_none : Result (List (List Point)) Limit → List (List Point)
@@ -34,17 +24,6 @@ lines_or_none (Err limit) = []
 
 abbrev pub lines_by : Choices → Feed → List (List Point)
 lines_by choices feed = lines_or_none (lines_outcome choices.near feed)
-
-abbrev pub geographic_on : Feed → Choices → Claim → Result PlainCertificate ℕ → Result GraphParts Limit
-    → Result (List (List Point)) Limit → Result (List ℕ) CheckFault
-geographic_on feed choices claim read (Err limit) lines = Err (fault.Limit limit)
-geographic_on feed choices claim read (Ok graph) (Err limit) = Err (fault.Limit limit)
-geographic_on feed choices claim read (Ok graph) (Ok lines) = geographic_items feed choices claim graph lines read
-
--- The geographic map, by what the certificate's text is read as; or the limit that is met, or the item refused first.
-abbrev pub geographic_outcome : Feed → Choices → Claim → Result PlainCertificate ℕ → Result (List ℕ) CheckFault
-geographic_outcome feed choices claim read = geographic_on feed choices claim read (graph_outcome choices.near feed)
-    (lines_outcome choices.near feed)
 
 -- A geographic map, by a certificate, whoever made that: the certificate certifies the picture that is due, as `check`
 -- does, so of its line orders this is proved; and the map shows these orders along the courses of the feed's segments.

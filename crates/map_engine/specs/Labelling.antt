@@ -1,14 +1,11 @@
 -- Pictures that are drawn of an accepted certificate, and the map with its names.
-use Rattle.std.specs.Prelude.{◌≡◌, ℕ, List, Result, Ok, Err}
-use Rattle.map_base.specs.declared.limit.Limit.{Limit}
+use Rattle.std.specs.Prelude.{◌≡◌, ℕ, List, Result}
 use Rattle.map_base.specs.Settings.{Choices}
 use Rattle.transit_feed.specs.Feeds.{Feed}
 use Rattle.graph_core.specs.declared.parts.GraphParts.{GraphParts}
-use Rattle.line_graph.specs.Outcome.{graph_outcome}
 use Rattle.label_place.specs.Labelled.{labelled_text}
 use Rattle.cert_file.specs.Plain.{PlainCertificate}
 use Rattle.map_faults.specs.declared.fault.CheckFault.{CheckFault}
-use Rattle.map_faults.specs.declared.fault.CheckFault.TheVariants as fault
 use Rattle.map_engine.specs.Tables.{importance_by, names_by}
 use Rattle.graph_maps.specs.Checking.{accepted_text}
 use Rattle.graph_maps.specs.declared.checked.Proved.{Proved}
@@ -25,20 +22,6 @@ pictured_items draw feed choices claim graph read = accepted_text draw
 -- the walks and the orders of a certificate as a map with its names at free places
 abbrev pub labelled_by : Feed → GraphParts → PlainCertificate → List ℕ
 labelled_by feed graph c = labelled_text (names_by feed) graph c.walks c.orders
-
--- this map, or why the certificate is not accepted
-abbrev pub labelled_items : Feed → Choices → Claim → GraphParts → Result PlainCertificate ℕ → Result (List ℕ) CheckFault
-labelled_items feed choices claim graph read = pictured_items (labelled_by feed graph) feed choices claim graph read
-
-abbrev pub labels_on : Feed → Choices → Claim → Result PlainCertificate ℕ → Result GraphParts Limit
-    → Result (List ℕ) CheckFault
-labels_on feed choices claim read (Err limit) = Err (fault.Limit limit)
-labels_on feed choices claim read (Ok graph) = labelled_items feed choices claim graph read
-
--- The map with its names, by what the certificate's text is read as; or the limit that is met, or the item refused
--- first.
-abbrev pub labels_outcome : Feed → Choices → Claim → Result PlainCertificate ℕ → Result (List ℕ) CheckFault
-labels_outcome feed choices claim read = labels_on feed choices claim read (graph_outcome choices.near feed)
 
 -- A map with its names, by a certificate, whoever made that: the certificate certifies the picture that is due, as
 -- `check` does, so its walks are a legal drawing of exactly the feed's line graph, with line orders of which this is

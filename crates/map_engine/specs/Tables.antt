@@ -1,11 +1,9 @@
 -- What a map takes from the tables of a feed: names, colours, and how much each line counts.
-use Rattle.std.specs.Prelude.{ℕ, ◌<◌, List, [], ◌∷◌, length, map, All, bytes_eq, if◌then◌else◌}
-use Rattle.map_base.specs.declared.ids.LineId.{LineId}
+use Rattle.std.specs.Prelude.{ℕ, List, [], ◌∷◌, map, bytes_eq, if◌then◌else◌}
 use Rattle.map_base.specs.Settings.{Choices}
 use Rattle.transit_feed.specs.declared.station.Station.{Station}
 use Rattle.transit_feed.specs.declared.line.Line.{Line}
 use Rattle.transit_feed.specs.Feeds.{Feed}
-use Rattle.graph_core.specs.declared.parts.GraphParts.{GraphParts}
 use Rattle.graph_maps.specs.Subjects.{Subject}
 use Rattle.svg_writer.specs.declared.names.Names.{Names}
 
@@ -24,10 +22,6 @@ importance_among (p ∷ pairs) id = if bytes_eq p.0 id then p.1 else importance_
 -- how much each line counts, in the order of their numbers
 abbrev pub importance_by : Feed → Choices → List ℕ
 importance_by feed choices = map (λ (l : Line). importance_among choices.importance l.id) feed.lines
-
--- each line on a segment is one of the feed's
-abbrev pub AreOfFeed : Feed → GraphParts → Type 0
-AreOfFeed feed graph = All (All (λ (a : LineId). a.0 < length feed.lines)) graph.lines
 
 -- what the tables of a feed tell of what a map of its line graph is made of
 abbrev pub subject_of : Feed → Choices → Subject

@@ -46,7 +46,7 @@ pub fn check(
     }
 }
 
-/// The same but for the map: what the certificate proves of its line orders, and the picture that is due.
+/// What a certificate proves of a feed's line orders, and the picture that is due; every item of the check but the map.
 pub fn check_certificate(
     alloc: Global,
     tables: &Tables,
@@ -65,7 +65,7 @@ pub fn check_certificate(
     check_on_graph(alloc, tables, settings, claim, &graph, certificate)
 }
 
-/// The same by the line graph of the tables, where that is known.
+/// `check_certificate`, by the line graph of the tables, where that is known.
 pub fn check_on_graph(
     alloc: Global,
     tables: &Tables,
@@ -84,7 +84,7 @@ pub fn check_on_graph(
         checked.proved) }
 {
     let names = names_of(alloc, tables)?;
-    let importance = line_numbers(alloc, tables, settings)?;
+    let importance = line_numbers(alloc, tables, settings, graph)?;
     check_from(
         alloc,
         graph,

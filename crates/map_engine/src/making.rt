@@ -52,8 +52,8 @@ pub fn make<L: Ledger>(
     make_again(alloc, tables, settings, method, &mut last, kept, steps)
 }
 
-/// The same where a map of the feed may have been drawn before: what `last` holds of the line graph and the drawing is
-/// taken again where nothing changed on which they depend. It changes none of what is made.
+/// The map that `make` makes, with what `last` holds of the line graph and the drawing: it is taken again where nothing
+/// changed on which it depends, and changes none of what is made.
 pub fn make_again<L: Ledger>(
     alloc: Global,
     tables: &Tables,
@@ -64,52 +64,19 @@ pub fn make_again<L: Ledger>(
     steps: &mut Steps<L>,
 ) -> Result<Made, MakeFault>
     ensures outcome { Gives bytes_of result (make_outcome tables.now settings.now method.now) }
-
-    // The map shows exactly the feed's line graph, in a legal drawing; no line orders of it cost less than the bound
-    // that its certificate proves, which is the cost where best orders are claimed; and the check says yes to the two.
     ensures made { IfOk result (λ made. IsMade tables.now settings.now method.now.claim (bytes_of made)) }
-
-    // What is held stays, each part that was finished is held, and no part that is held is searched again.
     ensures kept { All (Contains kept.new) kept.old }
     ensures finished { HoldsFinished result (finished_parts tables.now settings.now method.now) kept.new }
     ensures steps { steps.new ≤ steps.old + branches_left kept.old tables.now settings.now method.now }
 {
-    let improved = make_with(alloc, tables, settings, method, 0, last, kept, steps)?;
+    let improved = make_improved(alloc, tables, settings, method, 0, last, kept, steps)?;
     Ok(improved.map)
 }
 
-/// The map that `make` makes, and its certificate, after at most so many moves more on its drawing, and what these made
-/// of it. The line orders stay, and so does their proof. There is no map exactly where `make` makes none, for the same
-/// cause.
+/// The map that `make_again` makes, and its certificate, after at most so many moves more on its drawing, and what they
+/// made of it. The line orders stay, and so does their proof. There is no map exactly where `make` makes none, for the
+/// same cause.
 pub fn make_improved<L: Ledger>(
-    alloc: Global,
-    tables: &Tables,
-    settings: &Settings,
-    method: &Method,
-    moves: u32,
-    kept: &mut Kept,
-    steps: &mut Steps<L>,
-) -> Result<ImprovedMap, MakeFault>
-    ensures outcome { Gives improved_bytes result (improve_outcome tables.now settings.now method.now moves) }
-
-    // The map keeps what `make` promises. Its drawing is no heavier than before these moves, and all of them were made,
-    // or none makes it lighter.
-    ensures improved { IfOk result (λ improved. IsImprovedMap tables.now settings.now method.now moves
-        (improved_bytes improved)) }
-
-    // What is held stays, each part that was finished is held, and no part that is held is searched again.
-    ensures kept { All (Contains kept.new) kept.old }
-    ensures finished { HoldsFinished result (finished_parts tables.now settings.now method.now) kept.new }
-    ensures steps { steps.new ≤ steps.old + branches_left kept.old tables.now settings.now method.now }
-{
-    let mut last = LastDrawing::never();
-    make_with(
-        alloc, tables, settings, method, moves, &mut last, kept, steps,
-    )
-}
-
-/// The same over what was drawn last.
-fn make_with<L: Ledger>(
     alloc: Global,
     tables: &Tables,
     settings: &Settings,
@@ -125,8 +92,6 @@ fn make_with<L: Ledger>(
     // or none makes it lighter.
     ensures improved { IfOk result (λ improved. IsImprovedMap tables.now settings.now method.now moves
         (improved_bytes improved)) }
-
-    // What is held stays, each part that was finished is held, and no part that is held is searched again.
     ensures kept { All (Contains kept.new) kept.old }
     ensures finished { HoldsFinished result (finished_parts tables.now settings.now method.now) kept.new }
     ensures steps { steps.new ≤ steps.old + branches_left kept.old tables.now settings.now method.now }
@@ -146,7 +111,7 @@ fn make_with<L: Ledger>(
     )
 }
 
-/// What `make` makes, by the line graph of the tables, where that is known.
+/// `make`, by the line graph of the tables, where that is known.
 pub fn make_on_graph<L: Ledger>(
     alloc: Global,
     tables: &Tables,
@@ -193,7 +158,7 @@ fn improved_on_graph<L: Ledger>(
     ensures steps { steps.new ≤ steps.old + branches_left kept.old tables.now settings.now method.now }
 {
     let names = names_of(alloc, tables)?;
-    let importance = line_numbers(alloc, tables, settings)?;
+    let importance = line_numbers(alloc, tables, settings, graph)?;
     make_improved_from(
         alloc,
         graph,

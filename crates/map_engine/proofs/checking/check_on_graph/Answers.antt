@@ -7,16 +7,9 @@ use Rattle.graph_maps.specs.Checking.{certificate_on, checked_bytes, Gives}
 use Rattle.graph_maps.specs.Promises.{IsCertifiedOn}
 use Rattle.map_engine.specs.Tables.{subject_of}
 use Rattle.map_engine.specs.Promises.{IsCertified, ShowsLineGraph}
-use Rattle.map_engine.proofs.ImportanceLemmas.{told_of, subject_is}
+use Rattle.map_engine.proofs.ImportanceLemmas.{subject_is}
 use Rattle.map_engine.proofs.FeedMaps.{certified_of, shown_of}
 use Rattle.map_engine.proofs.checking.check_on_graph.Goals as goal
-
-pub check_from-requires : goal.check_from-requires
-check_from-requires c =
-    let told = told_of c.args.tables.now c.args.settings.now c.args.graph.now c.requires.graph
-    c.in_ok-importance.importance.items c.as_slice.result.now c.as_slice.ensures.value c.in_ok-importance.ensures.value
-    c.in_ok-importance.ensures.range c.in_ok-importance.ensures.few in
-    record { numbers = told.numbers; lines = told.lines; few = told.few }
 
 pub returns-clause-outcome : goal.returns-clause-outcome
 returns-clause-outcome c =

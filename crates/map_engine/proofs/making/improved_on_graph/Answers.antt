@@ -9,16 +9,9 @@ use Rattle.graph_maps.specs.Keeping.{finished_on, left_on, HoldsFinished}
 use Rattle.graph_maps.specs.Improving.{improved_bytes, improved_on, IsImprovedOn}
 use Rattle.map_engine.specs.Tables.{subject_of}
 use Rattle.map_engine.specs.Improving.{IsImprovedMap}
-use Rattle.map_engine.proofs.ImportanceLemmas.{told_of, subject_is}
+use Rattle.map_engine.proofs.ImportanceLemmas.{subject_is}
 use Rattle.map_engine.proofs.FeedMaps.{finished_is, improved_is, improved_of, left_is}
 use Rattle.map_engine.proofs.making.improved_on_graph.Goals as goal
-
-pub make_improved_from-requires : goal.make_improved_from-requires
-make_improved_from-requires g c =
-    let told = told_of c.args.tables.now c.args.settings.now c.args.graph.now c.requires.graph
-    c.in_ok-importance.importance.items c.as_slice.result.now c.as_slice.ensures.value c.in_ok-importance.ensures.value
-    c.in_ok-importance.ensures.range c.in_ok-importance.ensures.few in
-    record { numbers = told.numbers; lines = told.lines; few = told.few }
 
 pub returns-in_err-names-clause-kept : goal.returns-in_err-names-clause-kept
 returns-in_err-names-clause-kept g c = All-contains_itself c.args.kept.now

@@ -21,7 +21,7 @@ returns-in_err-improved-clause-finished g c =
     let e = c.in_err-improved.field-0.0 in
     let parts = finished_parts c.args.tables.now c.args.settings.now c.args.method.now in
     let same = err_from_is_err_and c.from_residual.result c.from_residual.ensures.1 in
-    rw (same.1, same.2) (same_held ImprovedMap Made e parts c.make_with.new.kept c.in_err-improved.ensures.finished)
+    rw (same.1, same.2) (same_held ImprovedMap Made e parts c.make_improved.new.kept c.in_err-improved.ensures.finished)
 
 pub returns-clause-outcome : goal.returns-clause-outcome
 returns-clause-outcome g c = made_of_none (subject_of c.args.tables.now c.args.settings.now)

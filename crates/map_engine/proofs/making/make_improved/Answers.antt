@@ -9,7 +9,7 @@ use Rattle.graph_maps.proofs.KeepLemmas.{nothing_finished}
 use Rattle.map_engine.specs.Tables.{subject_of}
 use Rattle.map_engine.specs.Making.{drawn_outcome}
 use Rattle.map_engine.proofs.FeedMaps.{not_built}
-use Rattle.map_engine.proofs.making.make_with.Goals as goal
+use Rattle.map_engine.proofs.making.make_improved.Goals as goal
 
 pub returns-in_err-graph-clause-outcome : goal.returns-in_err-graph-clause-outcome
 returns-in_err-graph-clause-outcome g c =

@@ -7,16 +7,9 @@ use Rattle.graph_maps.specs.Checking.{Gives}
 use Rattle.graph_maps.specs.Labelling.{labelled_on, IsLabelledOn}
 use Rattle.map_engine.specs.Tables.{subject_of}
 use Rattle.map_engine.specs.Labelling.{IsLabelledMap}
-use Rattle.map_engine.proofs.ImportanceLemmas.{told_of, subject_is}
+use Rattle.map_engine.proofs.ImportanceLemmas.{subject_is}
 use Rattle.map_engine.proofs.FeedMaps.{labelled_of}
-use Rattle.map_engine.proofs.labelled.labels_on_graph.Goals as goal
-
-pub labels_from-requires : goal.labels_from-requires
-labels_from-requires c =
-    let told = told_of c.args.tables.now c.args.settings.now c.args.graph.now c.requires.graph
-    c.in_ok-importance.importance.items c.as_slice.result.now c.as_slice.ensures.value c.in_ok-importance.ensures.value
-    c.in_ok-importance.ensures.range c.in_ok-importance.ensures.few in
-    record { numbers = told.numbers; lines = told.lines; few = told.few }
+use Rattle.map_engine.proofs.pictures.labels_on_graph.Goals as goal
 
 pub returns-clause-outcome : goal.returns-clause-outcome
 returns-clause-outcome c =

@@ -1,32 +1,19 @@
 use Rattle.std.proofs.Common.{◌≡◌, ◌∙◌, ℕ, List, Ok, Result, ap, sym, refl, subst}
 use Rattle.std.proofs.lemmas.Result.{err_from_is_err_and}
 use Rattle.map_base.specs.declared.ids.LineId.{LineId}
-use Rattle.order_model.specs.Costs.{AreOrders}
+use Rattle.octi_grid.specs.Walks.{PlainWalk}
+use Rattle.line_calls.specs.Calls.{node_callers}
 use Rattle.svg_writer.specs.declared.names.Names.{Names}
 use Rattle.svg_writer.specs.Picture.{picture_text}
-use Rattle.geo_map.specs.GeoMap.{geographic_text}
+use Rattle.poster_rules.specs.Posters.{poster_text}
 use Rattle.map_faults.specs.declared.fault.CheckFault.{CheckFault}
 use Rattle.graph_maps.specs.Readings.{certificate_in}
 use Rattle.graph_maps.specs.Checking.{AcceptedMap, accepted_map, accepted_text, held_by, HasCause}
 use Rattle.graph_maps.specs.Promises.{IsAcceptedOn}
 use Rattle.graph_maps.proofs.Accepted.{accepted_made, certified_by, refused_made}
 use Rattle.map_engine.specs.Tables.{importance_by, names_by, subject_of}
-use Rattle.map_engine.proofs.ImportanceLemmas.{told_of}
 use Rattle.map_engine.proofs.FeedMaps.{certified_of}
-use Rattle.map_engine.proofs.geographic.geo_on_graph.Goals as goal
-
-pub checked_certificate-requires : goal.checked_certificate-requires
-checked_certificate-requires c =
-    let told = told_of c.args.tables.now c.args.settings.now c.args.graph.now c.requires.graph
-    c.in_ok-importance.importance.items c.as_slice.result.now c.as_slice.ensures.value c.in_ok-importance.ensures.value
-    c.in_ok-importance.ensures.range c.in_ok-importance.ensures.few in
-    record { numbers = told.numbers; lines = told.lines; few = told.few }
-
-pub geographic-requires-clause-ordered : goal.geographic-requires-clause-ordered
-geographic-requires-clause-ordered c =
-    let is = c.in_ok-checked.ensures.accepted in
-    subst (λ (orders : List (List LineId)). AreOrders c.args.graph.now.lines orders)
-    (sym is.shows.orders) is.shows.ordered
+use Rattle.map_engine.proofs.pictures.poster_on_graph.Goals as goal
 
 pub returns-in_err-checked-clause-outcome : goal.returns-in_err-checked-clause-outcome
 returns-in_err-checked-clause-outcome c =
@@ -38,8 +25,8 @@ returns-in_err-checked-clause-outcome c =
     let p = err_from_is_err_and c.from_residual-in_err-checked.result c.from_residual-in_err-checked.ensures.1 in
     let cause = subst (λ (ns : List ℕ). HasCause (accepted_text held_by ns choices c.args.claim graph read) e)
     (c.as_slice.ensures.value ∙ c.in_ok-importance.ensures.value) c.in_err-checked.ensures.outcome in
-    rw (p.1, p.2) (refused_made (λ (a : AcceptedMap). geographic_text (names_by feed) graph c.args.lines.now a.orders)
-    (importance_by feed choices) choices c.args.claim graph held_by read e cause)
+    rw (p.1, p.2) (refused_made (λ (a : AcceptedMap). poster_text (names_by feed) graph a.walks a.orders
+    (node_callers feed graph.kinds)) (importance_by feed choices) choices c.args.claim graph held_by read e cause)
 
 pub returns-clause-outcome : goal.returns-clause-outcome
 returns-clause-outcome c =
@@ -51,31 +38,35 @@ returns-clause-outcome c =
     let ok : List ℕ → Result (List ℕ) CheckFault = λ bytes. Ok bytes in
     let accepted = subst (λ (ns : List ℕ). accepted_text held_by ns choices c.args.claim graph read ≡ Ok a)
     (c.as_slice.ensures.value ∙ c.in_ok-importance.ensures.value) c.in_ok-checked.ensures.outcome in
-    let drawn = c.in_ok-geographic.ensures
-    ∙ ap (λ (ns : Names). geographic_text ns graph c.args.lines.now a.orders) c.in_ok-names.ensures in
-    accepted_made (λ (x : AcceptedMap). geographic_text (names_by feed) graph c.args.lines.now x.orders)
-    (importance_by feed choices) choices c.args.claim graph held_by read a accepted ∙ ap ok (sym drawn)
+    let drawn = c.in_ok-poster.ensures
+    ∙ ap (λ (ns : Names). poster_text ns graph a.walks a.orders c.in_ok-callers.callers) c.in_ok-names.ensures
+    ∙ ap (poster_text (names_by feed) graph a.walks a.orders) c.in_ok-callers.ensures in
+    accepted_made (λ (x : AcceptedMap). poster_text (names_by feed) graph x.walks x.orders
+    (node_callers feed graph.kinds)) (importance_by feed choices) choices c.args.claim graph held_by read a accepted
+    ∙ ap ok (sym drawn)
 
 pub returns-clause-certified : goal.returns-clause-certified
 returns-clause-certified c =
     let feed = c.args.tables.now in
     let choices = c.args.settings.now in
     let graph = c.args.graph.now in
+    let callers = node_callers feed graph.kinds in
     let a = accepted_map c.in_ok-checked.checked in
     let subject = subject_of feed choices in
     let picture = picture_text subject.names graph a.walks a.orders in
     let is = subst (λ (ns : List ℕ). IsAcceptedOn ns choices c.args.claim graph c.args.certificate.now a)
     (c.as_slice.ensures.value ∙ c.in_ok-importance.ensures.value) c.in_ok-checked.ensures.accepted in
-    let drawn = c.in_ok-geographic.ensures
-    ∙ ap (λ (ns : Names). geographic_text ns graph c.args.lines.now a.orders) c.in_ok-names.ensures in
+    let drawn = c.in_ok-poster.ensures
+    ∙ ap (λ (ns : Names). poster_text ns graph a.walks a.orders c.in_ok-callers.callers) c.in_ok-names.ensures
+    ∙ ap (poster_text (names_by feed) graph a.walks a.orders) c.in_ok-callers.ensures in
     record {
       picture = picture;
       proved = a.proved;
       certified = certified_of feed choices graph c.requires.graph c.requires.kept c.args.claim picture
           c.args.certificate.now a.proved
           (certified_by subject choices c.args.claim graph c.args.certificate.now a is picture refl);
-      lines = c.args.lines.now;
-      of_feed = c.requires.lines;
-      drawn = drawn ∙ ap (λ (orders : List (List LineId)). geographic_text
-          (names_by feed) graph c.args.lines.now orders) is.shows.orders;
+      postered = drawn
+          ∙ ap (λ (walks : List PlainWalk). poster_text (names_by feed) graph walks a.orders callers) is.shows.walks
+          ∙ ap (λ (orders : List (List LineId)). poster_text (names_by feed) graph is.certificate.walks orders callers)
+          is.shows.orders;
     }
