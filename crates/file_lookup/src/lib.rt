@@ -1,5 +1,6 @@
 //! What a message to a user speaks of, found again on the disk after a run: what lies at a path, a row of a table with
-//! its header, the ids of a table, a line of a script, the text of settings that is refused, the network of a feed.
+//! its header, the ids of a table, the types of routes, a line of a script, the text of settings that is refused, the
+//! network of a feed.
 //! Nothing is promised but that a call returns, and nothing here is put into words. Files that are no plain files, as
 //! pipes, are not looked at.
 #![tactic(auto)]
@@ -10,6 +11,7 @@ mod far_stops;
 mod network;
 mod paths;
 mod refused_settings;
+mod route_types;
 mod rows;
 mod table_ids;
 
@@ -22,5 +24,6 @@ pub use paths::{
     is_plain, read_fault,
 };
 pub use refused_settings::{Refused, Source, refused_text};
+pub use route_types::{RouteTypes, route_types};
 pub use rows::{FoundRow, Sought, earlier_row, row_at};
 pub use table_ids::ids_at;
