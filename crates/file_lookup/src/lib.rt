@@ -6,16 +6,17 @@
 #![tactic(auto)]
 
 mod columns;
+mod drawn_types;
 mod edit_lines;
 mod far_stops;
 mod network;
 mod paths;
 mod refused_settings;
-mod route_types;
 mod rows;
 mod table_ids;
 
 pub use columns::{lacking_column, other_names, sought_in};
+pub use drawn_types::{RouteTypes, route_types};
 pub use edit_lines::{edits_path, line_at};
 pub use far_stops::has_far_stations;
 pub use network::{FarOff, Network, network_of};
@@ -24,6 +25,5 @@ pub use paths::{
     is_plain, read_fault,
 };
 pub use refused_settings::{Refused, Source, refused_text};
-pub use route_types::{RouteTypes, route_types};
 pub use rows::{FoundRow, Sought, earlier_row, row_at};
 pub use table_ids::ids_at;
