@@ -233,7 +233,7 @@ pub(crate) const NUMBER: &str = "The number of the feed, from 0 to 4294967295";
 
 /// What is said where `map` names one file twice.
 pub(crate) const ONE_MAP: &str = "\
-error: two of SVG, CERT and HTML are one file
+error: SVG, CERT and, where it is named, HTML have to be different files
 
 Usage: octimap map [OPTIONS] <FEED> <SVG> <CERT>
 
@@ -242,7 +242,7 @@ For more information, try '--help'.
 
 /// What is said where `make` names one file twice.
 pub(crate) const ONE_FILE: &str = "\
-error: two of SVG, CERT and HTML are one file
+error: SVG, CERT and, where it is named, HTML have to be different files
 
 Usage: octimap make [OPTIONS] <FEED> <SVG> <CERT>
 

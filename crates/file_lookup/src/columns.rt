@@ -3,7 +3,7 @@
 use crate::rows::{FoundRow, Sought};
 use gtfs_fields::whole;
 use map_base::{NoMemory, Text};
-use message_texts::{column_of, id_column, required_column};
+use message_texts::{column_of, id_column, is_column, required_column};
 use std::alloc::Global;
 use table_rows::{Table, Why};
 
@@ -21,26 +21,15 @@ pub fn lacking_column(table: Table, found: &FoundRow) -> Option<&'static str> {
     None
 }
 
-/// The names that are none of the columns that a table has to have.
+/// The names that are none of the columns that a table may have: one of these may be a column whose name is misspelt.
 pub fn other_names(alloc: Global, table: Table, names: Vec<Text>) -> Result<Vec<Text>, NoMemory> {
     let mut other = Vec::new(alloc);
     for name in names {
-        if !is_required(table, name.as_str()) {
+        if !is_column(table, name.as_str()) {
             other.push(name)?;
         }
     }
     Ok(other)
-}
-
-/// Whether a table has to have this column.
-fn is_required(table: Table, name: &str) -> bool {
-    for place in 0..MOST_REQUIRED {
-        match required_column(table, place) {
-            Some(column) if column == name => return true,
-            _ => {}
-        }
-    }
-    false
 }
 
 /// What is looked for in the rows above one that repeats what an earlier row has.

@@ -175,18 +175,28 @@ fn clash_in(rt: &HostRuntime, words: &[String]) -> Result<Option<Clash>, NoMemor
     }
 }
 
-/// Says which paths are one file.
+/// Says that an output is a file that the command reads, or another output.
 #[inline(never)]
 fn refuse_clash(rt: &HostRuntime, clash: &Clash) -> Status
     ensures { result ≡ Status.Usage }
 {
-    let output = clash.output.as_str();
-    let other = clash.other.as_str();
-    let _not_shown = writeln!(
-        output(rt),
-        "error: the output {output} is one file with {other}\n\nFor more information, try '--help'."
-    );
+    let _not_shown = tell_clash(rt, clash.output.as_str(), clash.other.as_str());
     Status::Usage
+}
+
+/// Names an output, and what is one file with it where that has another text.
+fn tell_clash(rt: &HostRuntime, written: &str, other: &str) -> io::Result<()> {
+    if written == other {
+        return writeln!(
+            output(rt),
+            "error: the output {written} is a file that the command reads, or another output\n\n\
+            For more information, try '--help'."
+        );
+    }
+    writeln!(
+        output(rt),
+        "error: the output {written} is one file with {other}\n\nFor more information, try '--help'."
+    )
 }
 
 /// Says on standard error what a status means for the user, if there is anything to say and memory for it.

@@ -39,7 +39,7 @@ pub are_of_imported : (told : Told) (inputs : InputPaths) (rose : Type 0) (paths
     → IfOk result (AreOfImported told inputs paths)
 are_of_imported told inputs rose paths both (Err why) reads made = tt
 are_of_imported told inputs rose paths both (Ok outputs) reads made =
-    record { both = both; reads = reads.1; made = made.0; promised = made.2; are = made.3 }
+    record { both = both; reads = reads.1; made = made.0; defined = made.1; promised = made.2; are = made.3 }
 
 pub searches : (told : Told) (inputs : InputPaths) (rose : Type 0) (both : MapSettings × Imported) (before now : ℕ)
     → AreRead told inputs rose both

@@ -61,12 +61,13 @@ import_work chosen paths = do
   both ← read_work chosen
   ends (imported_at paths both)
 
--- The outputs are the map and the certificate of the graph that was read: the map shows it in a legal drawing, and no line
--- orders cost less than the bound that the certificate proves.
+-- The outputs are the map and the certificate that are defined for the graph that was read: the map shows it in a legal
+-- drawing, and no line orders cost less than the bound that the certificate proves.
 pub record AreOfImported (told : Option (List (List ℕ × List ℕ))) (inputs : InputPaths) (paths : MapPaths) (outputs : List Output) : Type 0 where
   pub both : MapSettings × Imported
   pub reads : IsRun refused.ReadFault told (input_at inputs) (read_work inputs.chosen) (Ok both)
   pub made : MapBytes
+  pub defined : made_on (told_by both.1.names both.1.importance) both.0.settings both.0.method both.1.graph ≡ Ok made
   pub promised : IsMadeOn (told_by both.1.names both.1.importance) both.0.settings both.0.method.claim both.1.graph made
   pub are : outputs ≡ map_outputs paths made
 

@@ -115,6 +115,7 @@ means told (imported json paths chosen) finished old new apart promised none hol
       both = promised.both;
       reads = promised.reads;
       made = promised.made;
+      defined = promised.defined;
       promised = promised.promised;
       map = has (Path paths.picture) ∙ map_held paths promised.made (held_by (Path paths.picture) old) apart;
       certificate = has (Path paths.certificate) ∙ certificate_held paths promised.made (held_by (Path paths.certificate) old);

@@ -10,7 +10,7 @@ use Rattle.files_door.specs.Files.{file_at}
 use Rattle.files_door.specs.Targets.{Written, held_by}
 use Rattle.table_rows.specs.declared.why.Table.{Table}
 use Rattle.table_rows.specs.Folder.{path_in}
-use Rattle.graph_maps.specs.Making.{MapBytes}
+use Rattle.graph_maps.specs.Making.{MapBytes, made_on}
 use Rattle.map_engine.specs.Making.{make_outcome}
 use Rattle.map_engine.specs.Promises.{IsMade}
 use Rattle.map_engine.specs.Postering.{IsPoster}
@@ -70,12 +70,14 @@ pub record IsImprovedMapWritten (told : Option (List (List ℕ × List ℕ))) (a
   pub certificate : held_by (Path paths.certificate) new ≡ Some improved.map.certificate
   pub printed : held_by Said new ≡ Some (unwrap_or (held_by Said old) [] ++ improved_line improved.improvement)
 
--- The map of a graph file is written, and its certificate: the map shows exactly the line graph that was read, in a legal
--- drawing; no line orders cost less than the bound that the certificate proves, and the check says yes to both.
+-- The map of a graph file is written, and its certificate: those that are defined for what was read. The map shows exactly
+-- the line graph that was read, in a legal drawing; no line orders cost less than the bound that the certificate proves, and
+-- the check says yes to both.
 pub record IsImportWritten (told : Option (List (List ℕ × List ℕ))) (asked : Asked) (paths : MapPaths) (new : Written) : Type 0 where
   pub both : MapSettings × Imported
   pub reads : IsRun refused.ReadFault told (input_path asked) (read_work (inputs_of asked).chosen) (Ok both)
   pub made : MapBytes
+  pub defined : made_on (told_by both.1.names both.1.importance) both.0.settings both.0.method both.1.graph ≡ Ok made
   pub promised : IsMadeOn (told_by both.1.names both.1.importance) both.0.settings both.0.method.claim both.1.graph made
   pub map : held_by (Path paths.picture) new ≡ Some made.svg
   pub certificate : held_by (Path paths.certificate) new ≡ Some made.certificate

@@ -37,13 +37,13 @@ use trial_command::print_trial;
 /// its bytes.
 ///
 /// Where `make` or `improve` ends with status 0, the map that is written shows exactly the feed's line graph, in which
-/// no line is lost: a legal drawing, in which no line orders cost less, as the certificate beside it shows. Where
-/// `check` ends with status 0, the map at its path is such a map, whoever made it and its certificate; where `labels`
-/// ends with it, such a map is written with names at free places, where `geo` does, its line orders along the ways that
-/// lines take on the ground, and where `poster` does, such a map to print. Each draw of a `session` has the bytes of a
-/// fresh map with the edits that stand there, and is written as soon as it is made; a bad line of its script ends it,
-/// and the draws before it stay. Where a file of edits is named, the feed is as these make it. `page` writes the bytes
-/// of the page's head, of the map and of the page's tail.
+/// no line is lost: a legal drawing, in which no line orders cost less than its certificate proves: their own cost,
+/// where best orders are claimed. Where `check` ends with status 0, the map at its path is such a map, whoever made it
+/// and its certificate; where `labels` ends with it, such a map is written with names at free places, where `geo` does,
+/// its line orders along the ways that lines take on the ground, and where `poster` does, such a map to print. Each
+/// draw of a `session` has the bytes of a fresh map with the edits that stand there, and is written as soon as it is
+/// made; a bad line of its script ends it, and the draws before it stay. Where a file of edits is named, the feed is as
+/// these make it. `page` writes the bytes of the page's head, of the map and of the page's tail.
 /// `export` writes the line graph of the feed as a graph file. Where `import` ends with status 0, the map that is written
 /// shows exactly the line graph of such a file, with a certificate as that of `make`.
 /// `trial` reads and writes no file.

@@ -32,11 +32,11 @@ pub nearest_is_meant : (word : List ℕ) (known : List (List ℕ)) (best : Optio
     → IsNearestBelow word known (length known) best → IsMeant word known (near_enough word best)
 nearest_is_meant word known None none = λ k below. absurd (omega (arith, none, below))
 nearest_is_meant word known (Some best) is =
-    elim (leb_tells best.1 (length word / 3 + 1)) [ inl t ↦ rw t.0 (near t.0) | inr t ↦ rw t.0 (far t.1) ]
+    elim (leb_tells best.1 ((length word + 1) / 3)) [ inl t ↦ rw t.0 (near t.0) | inr t ↦ rw t.0 (far t.1) ]
   where
     near : is_near word best.1 ≡ true → IsMeant word known (Some best.0)
     near e = (is.0, rw (sym is.1) e, λ k below. rw (sym is.1) (is.2 k below))
 
-    far : length word / 3 + 1 < best.1 → (k : ℕ) → k < length known → is_near word (distance_at word known k) ≡ false
+    far : (length word + 1) / 3 < best.1 → (k : ℕ) → k < length known → is_near word (distance_at word known k) ≡ false
     far lt k below =
-        elim (leb_tells (distance_at word known k) (length word / 3 + 1)) [ inl u ↦ absurd (omega (arith, lt, is.2 k below, u.1)) | inr u ↦ u.0 ]
+        elim (leb_tells (distance_at word known k) ((length word + 1) / 3)) [ inl u ↦ absurd (omega (arith, lt, is.2 k below, u.1)) | inr u ↦ u.0 ]

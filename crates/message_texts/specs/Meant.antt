@@ -11,9 +11,9 @@ distance word known = levenshtein_row nat_eq (chars word) (chars known) (length 
 abbrev pub distance_at : List ℕ → List (List ℕ) → ℕ → ℕ
 distance_at word known place = distance word (slice_index_or known place [])
 
--- at most a third as many edits as the word has bytes, and one more
+-- at most (n + 1) / 3 edits for a word of n bytes: none for one byte, one for two to four
 abbrev pub is_near : List ℕ → ℕ → Bool
-is_near word edits = nat_le edits (length word / 3 + 1)
+is_near word edits = nat_le edits ((length word + 1) / 3)
 
 -- the best so far, or the next one where it is nearer
 abbrev pub nearer : Option (ℕ × ℕ) → ℕ → ℕ → Option (ℕ × ℕ)

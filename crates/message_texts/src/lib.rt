@@ -17,7 +17,7 @@ pub use edit_word::{EDIT_WORDS, EditWord};
 pub use far_off::far_stations;
 pub use limit_hints::{graph_limit_hint, limit_hint};
 pub use meant_word::meant;
-pub use row_field::{column_of, due_in, id_column, required_column};
+pub use row_field::{column_of, due_in, id_column, is_column, required_column};
 pub use seeming::{Found, Seeming, path_seems};
 pub use setting_key::{SETTING_KEYS, SettingKey};
 pub use shown::{list_of, plain, quoted};

@@ -8,8 +8,7 @@ use std::alloc::Global;
 use strsim::levenshtein;
 
 /// The place of the known word that was meant by `word`: one of the nearest, if it is near enough. Near enough is one
-/// that is made of `word` by putting in, taking out or changing a third as many characters as it has
-/// bytes at most, and one more.
+/// that is made of `word` by putting in, taking out or changing at most (n + 1) / 3 characters, where it has n bytes.
 #[tactic(auto, using(crate::proofs::MeantLemmas::nearest_is_meant))]
 pub fn meant(alloc: Global, word: &str, known: &[Text]) -> Result<Option<usize>, NoMemory>
     ensures { IfOk result (IsMeant word.now known.now) }
@@ -53,7 +52,7 @@ fn near_enough(word: &str, nearest: Option<(usize, usize)>) -> Option<usize>
     ensures { result ≡ near_enough word.now nearest }
 {
     let (place, distance) = nearest?;
-    if distance <= word.len() / 3 + 1 {
+    if distance <= (word.len() + 1) / 3 {
         Some(place)
     } else {
         None

@@ -34,6 +34,42 @@ pub fn required_column(table: Table, place: usize) -> Option<&'static str> {
     }
 }
 
+/// Whether a table of this kind may have a column of this name by the GTFS Schedule reference, read or not.
+pub fn is_column(table: Table, name: &str) -> bool {
+    for column in columns_of(table).split_whitespace() {
+        if column == name {
+            return true;
+        }
+    }
+    false
+}
+
+/// The columns that a table may have, with a blank between two.
+fn columns_of(table: Table) -> &'static str {
+    match table {
+        Table::Routes => {
+            "route_id agency_id route_short_name route_long_name route_desc route_type route_url route_color \
+             route_text_color route_sort_order continuous_pickup continuous_drop_off network_id cemv_support"
+        }
+        Table::Stops => {
+            "stop_id stop_code stop_name tts_stop_name stop_desc stop_lat stop_lon zone_id stop_url location_type \
+             parent_station stop_timezone wheelchair_boarding level_id platform_code stop_access"
+        }
+        Table::Trips => {
+            "route_id service_id trip_id trip_headsign trip_short_name direction_id block_id shape_id \
+             wheelchair_accessible bikes_allowed cars_allowed safe_duration_factor safe_duration_offset"
+        }
+        Table::Shapes => {
+            "shape_id shape_pt_lat shape_pt_lon shape_pt_sequence shape_dist_traveled"
+        }
+        Table::StopTimes => {
+            "trip_id arrival_time departure_time stop_id location_group_id location_id stop_sequence stop_headsign \
+             start_pickup_drop_off_window end_pickup_drop_off_window pickup_type drop_off_type continuous_pickup \
+             continuous_drop_off shape_dist_traveled timepoint pickup_booking_rule_id drop_off_booking_rule_id"
+        }
+    }
+}
+
 /// The column of the field that a reason speaks of; none where it speaks of the whole row or table.
 pub fn column_of(table: Table, why: Why) -> Option<&'static str> {
     match why {

@@ -125,7 +125,7 @@ fn words_that_are_not_read_get_a_text(rt: HostRuntime) -> Result<(), Fail> {
         ),
         (
             "make feed map map",
-            "error: two of SVG, CERT and HTML are one file",
+            "error: SVG, CERT and, where it is named, HTML have to be different files",
         ),
         ("page map map", "error: SVG and HTML are one file"),
         ("trial x", "error: invalid value 'x' for '<N>'"),

@@ -3,9 +3,8 @@
 use crate::station_words::far_line;
 use command_inputs::Inputs;
 use command_words::Command;
-use file_lookup::{begins_with, has_far_stations, ids_at, network_of};
-use gtfs_fields::whole;
-use map_base::{NoMemory, Text};
+use file_lookup::{RouteTypes, begins_with, has_far_stations, network_of, route_types};
+use map_base::NoMemory;
 use message_texts::quoted;
 use std::alloc::Global;
 use std::fmt::Write;
@@ -14,11 +13,14 @@ use std::rt::Files;
 /// How the certificate of a graph without nodes begins.
 const OF_NOTHING: &[u8] = b"octimap 1\ngraph 0 0 0\n";
 
-/// How many types of routes are told.
-const TOLD: usize = 12;
+/// How a graph file without nodes begins.
+const NO_FEATURES: &[u8] = b"{\"features\":[]";
 
-/// The lines for a map that was made and shows nothing, and for a picture of such a map: which routes the feed has, and
-/// what to do. Empty for all other commands, and for all other maps.
+/// How many types of routes are told: as many as may be drawn.
+const TOLD: usize = 100;
+
+/// The lines for a map that was made and shows nothing, and for a picture, a graph or a script's draws that do: which
+/// routes the feed has, and what to do. Empty for all other commands, and for all other maps.
 pub(crate) fn blank_map<R: Files + AllocGlobal>(
     rt: &R,
     command: &Command<'_>,
@@ -28,7 +30,9 @@ pub(crate) fn blank_map<R: Files + AllocGlobal>(
         Command::Make { files, .. } => of_certificate(rt, command, files.map.certificate, inputs),
         Command::Improve { files, .. } => of_certificate(rt, command, files.certificate, inputs),
         Command::Import { graph, files, .. } => of_graph_file(rt, graph, files.certificate),
-        Command::Depict { certificate, .. } => of_picture(rt, certificate, inputs),
+        Command::Depict { certificate, .. } => of_file(rt, certificate, OF_NOTHING, inputs),
+        Command::Export { out, .. } => of_file(rt, out, NO_FEATURES, inputs),
+        Command::Graph { .. } | Command::Session { .. } => of_routes(rt, inputs),
         _ => Ok(String::new(rt.alloc())),
     }
 }
@@ -47,13 +51,14 @@ fn of_certificate<R: Files + AllocGlobal>(
     }
 }
 
-/// The lines for a picture by this certificate.
-fn of_picture<R: Files + AllocGlobal>(
+/// The lines for a picture or a graph file, where a file begins as that of nothing does.
+fn of_file<R: Files + AllocGlobal>(
     rt: &R,
-    certificate: &str,
+    path: &str,
+    begin: &[u8],
     inputs: &Inputs<'_>,
 ) -> Result<String, NoMemory> {
-    if begins_with(rt, certificate, OF_NOTHING) {
+    if begins_with(rt, path, begin) {
         routes_line(rt, inputs)
     } else {
         Ok(String::new(rt.alloc()))
@@ -91,35 +96,54 @@ fn of_far_stations<R: Files + AllocGlobal>(
     }
 }
 
-/// How many routes a feed has, of which types, and what to do.
+/// Which routes the feed has, and what to do.
 fn routes_line<R: Files + AllocGlobal>(rt: &R, inputs: &Inputs<'_>) -> Result<String, NoMemory> {
     let alloc = rt.alloc();
-    let feed = inputs.feed;
-    let path = format!(in alloc; "{feed}/routes.txt")?;
-    let types = ids_at(rt, path.as_str(), "route_type")?;
-    if types.is_empty() {
+    match route_types(rt, inputs)? {
+        Some(types) => types_line(alloc, &types),
+        None => Ok(format!(in alloc;
+            "octimap: the map shows nothing: each route is of a type that is not drawn, has no trip, or is hidden\n"
+        )?),
+    }
+}
+
+/// The lines for a graph that was printed, and for the draws of a script: where no route is of a type that is drawn.
+fn of_routes<R: Files + AllocGlobal>(rt: &R, inputs: &Inputs<'_>) -> Result<String, NoMemory> {
+    let alloc = rt.alloc();
+    let Some(types) = route_types(rt, inputs)? else {
+        return Ok(String::new(alloc));
+    };
+    if types.left_out.len() == types.all.len() {
+        types_line(alloc, &types)
+    } else {
+        Ok(String::new(alloc))
+    }
+}
+
+/// Which types the routes have that are not drawn, and what to do.
+fn types_line(alloc: Global, types: &RouteTypes) -> Result<String, NoMemory> {
+    if types.all.is_empty() {
         return Ok(format!(in alloc; "octimap: the map shows nothing: routes.txt has no routes\n")?);
     }
-    let count = types.len();
-    let kinds = kinds_of(alloc, types.as_slice())?;
+    if types.left_out.is_empty() {
+        return Ok(format!(in alloc;
+            "octimap: the map shows nothing: no route of a type that is drawn has a trip and is not hidden\n"
+        )?);
+    }
+    let count = types.routes;
+    let left_out = list_of_types(alloc, types.left_out.as_slice())?;
+    let all = list_of_types(alloc, types.all.as_slice())?;
     Ok(format!(in alloc;
         "octimap: the map shows nothing: each route is of a type that is not drawn, has no trip, or is hidden\n\
-        octimap: the types of the routes ({count} in routes.txt): {kinds}; to draw them, add --set 'types=[{kinds}]'\n"
+        octimap: the types of routes that are not drawn ({count} in routes.txt): {left_out}; to draw them, add --set \
+        'types=[{all}]'\n"
     )?)
 }
 
-/// The types, each once and rising, with a comma between them: the first twelve.
-fn kinds_of(alloc: Global, types: &[Text]) -> Result<String, NoMemory> {
-    let mut numbers = Vec::new(alloc);
-    for kind in types {
-        if let Some(number) = whole(kind.as_str().as_bytes()) {
-            numbers.push(number)?;
-        }
-    }
-    numbers.sort()?;
-    numbers.dedup();
+/// Types with a comma between them: the first hundred.
+fn list_of_types(alloc: Global, types: &[u32]) -> Result<String, NoMemory> {
     let mut list = String::new(alloc);
-    for (place, number) in numbers.iter().take(TOLD).enumerate() {
+    for (place, number) in types.iter().take(TOLD).enumerate() {
         if place > 0 {
             list.push_str(", ")?;
         }
