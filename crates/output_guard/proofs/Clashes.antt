@@ -1,5 +1,5 @@
 -- Where the paths of a clash come from.
-use Rattle.std.proofs.Common.{◌≡◌, ℕ, List, [], ◌∷◌, ◌++◌, Contains, ap, subst, sym, ◌∙◌, append_assoc}
+use Rattle.std.proofs.Common.{◌≡◌, ℕ, List, ◌++◌, Contains, ap, subst, sym, ◌∙◌, append_assoc}
 use Rattle.std.proofs.lemmas.List.Elements.{Contains-append_left}
 use Rattle.output_guard.specs.declared.clash.Clash.{Clash}
 use Rattle.output_guard.specs.Guarded.{IsAmong}
