@@ -151,7 +151,8 @@ fn is_put_in_place<R: rt::Files + Print>(
     sinks: &DiskSinks<R>,
 ) -> bool
     ensures well { result ≡ false → (status.now ≡ Status.WriteFault) ⊎ (status.now ≡ Status.NoMemory) }
-    ensures cut { (status.now ≡ Status.WriteFault) ⊎ (status.now ≡ Status.NoMemory) → result ≡ true → asks_session words.now ≡ true }
+    ensures cut { (status.now ≡ Status.WriteFault) ⊎ (status.now ≡ Status.NoMemory) → result ≡ true
+        → asks_session words.now ≡ true }
 {
     match status {
         Status::WriteFault | Status::NoMemory => is_session(words) && sinks.holds_bytes(),
