@@ -1,8 +1,8 @@
 -- Where none of all keys, or of all words, is written so, there is none that is.
-use Rattle.std.proofs.Common.{◌≡◌, ◌≢◌, ℕ, ◌<◌, false, true≢false, List, [], ◌∷◌, get_or, length, sym, ◌∙◌, arith}
+use Rattle.std.proofs.Common.{◌≡◌, ◌≢◌, ℕ, ◌+◌, ◌<◌, Bool, false, true≢false, ◌||◌, List, [], ◌∷◌, get_or, length, take, ap, sym, ◌∙◌, arith}
 use Rattle.std.specs.Prelude.{bytes_eq}
 use Rattle.std.specs.List.{list_any}
-use Rattle.std.proofs.lemmas.List.Folds.{list_any_at}
+use Rattle.std.proofs.lemmas.List.Folds.{list_any_at, list_any_more}
 use Rattle.std.proofs.lemmas.Slice.Eq.{bytes_eq-Decides}
 use Rattle.message_texts.specs.declared.edit_word.EditWord.{EditWord}
 use Rattle.message_texts.specs.declared.edit_word.EditWord.TheVariants as edit
@@ -27,6 +27,15 @@ not_at : {X : Type 0} (name : X → List ℕ) (text : List ℕ) (all : List X) (
     → place < length all → name (get_or all place d) ≢ text
 not_at name text all place d none low same =
     true≢false (sym (list_any_at (λ x. bytes_eq (name x) text) all place d low ((bytes_eq-Decides _ _).1 same)) ∙ none)
+
+-- one more that is not written so
+pub none_more : {X : Type 0} (name : X → List ℕ) (text : List ℕ) (all : List X) (place : ℕ) (d : X) (written : List ℕ) (test : Bool) → place < length all
+    → list_any (λ (x : X). bytes_eq (name x) text) (take place all) ≡ false → written ≡ name (get_or all place d) → test ≡ bytes_eq written text → test ≡ false
+    → list_any (λ (x : X). bytes_eq (name x) text) (take (place + 1) all) ≡ false
+none_more name text all place d written test low none is tests no =
+    list_any_more (λ x. bytes_eq (name x) text) all place d low
+    ∙ ap (λ (b : Bool). b || bytes_eq (name (get_or all place d)) text) none
+    ∙ (sym (tests ∙ ap (λ (w : List ℕ). bytes_eq w text) is) ∙ no)
 
 pub no_key : (text : List ℕ) → list_any (λ (k : SettingKey). bytes_eq (key_name k) text) all_keys ≡ false → (k : SettingKey) → key_name k ≢ text
 no_key text none k = of_key k
