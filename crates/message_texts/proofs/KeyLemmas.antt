@@ -32,10 +32,10 @@ not_at name text all place d none low same =
 pub none_more : {X : Type 0} (name : X → List ℕ) (text : List ℕ) (all : List X) (place : ℕ) (d : X) (written : List ℕ) (test : Bool) → place < length all
     → list_any (λ (x : X). bytes_eq (name x) text) (take place all) ≡ false → written ≡ name (get_or all place d) → test ≡ bytes_eq written text → test ≡ false
     → list_any (λ (x : X). bytes_eq (name x) text) (take (place + 1) all) ≡ false
-none_more name text all place d written test low none is tests no =
+none_more name text all place d written test low none is tests differs =
     list_any_more (λ x. bytes_eq (name x) text) all place d low
     ∙ ap (λ (b : Bool). b || bytes_eq (name (get_or all place d)) text) none
-    ∙ (sym (tests ∙ ap (λ (w : List ℕ). bytes_eq w text) is) ∙ no)
+    ∙ (sym (tests ∙ ap (λ (w : List ℕ). bytes_eq w text) is) ∙ differs)
 
 pub no_key : (text : List ℕ) → list_any (λ (k : SettingKey). bytes_eq (key_name k) text) all_keys ≡ false → (k : SettingKey) → key_name k ≢ text
 no_key text none k = of_key k
