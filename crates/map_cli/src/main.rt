@@ -2,7 +2,12 @@
 //! does all that the program does, over any files and sinks; `main` hands it the disk and standard output.
 #![tactic(auto)]
 
-ghost use Rattle.std.specs.Prelude.{◌≡◌, ◌<◌, ◌⊎◌, false, IsErrOf, OnOk};
+ghost use Rattle.std.specs.Prelude.{◌≡◌, ◌<◌, ◌⊎◌, true, false, IsErrOf, OnOk};
+ghost use Rattle.files_door.specs.Fault.{Rose};
+ghost use Rattle.command_words.specs.Words.{asked_in};
+ghost use Rattle.map_run.specs.Ending.{Ends, IsCaused};
+ghost use Rattle.map_run.specs.Promises.{TakesSteps};
+ghost use Rattle.map_cli.specs.Sessions.{asks_session};
 
 use command_words::{VERSION, asks_version, command_of, is_quiet};
 use disk_files::{DiskFiles, DiskLeads, DiskSinks, Stream, WriteError};
@@ -100,7 +105,16 @@ fn run_whole<F: Files, S: Sinks, L: Ledger>(
     files: &mut F,
     sinks: &mut S,
     steps: &mut Steps<L>,
-) -> Status {
+) -> Status
+    ensures ends { Ends (asked_in words.now) (F.told files.old)
+        (Rose (F.faults files.old) (F.faults files.new))
+        (Rose (S.faults sinks.old) (S.faults sinks.new))
+        (S.written sinks.old) (S.written sinks.new) result }
+    ensures cause { IsCaused (asked_in words.now)
+        (Rose (F.faults files.old) (F.faults files.new))
+        (Rose (S.faults sinks.old) (S.faults sinks.new)) result }
+    ensures steps { TakesSteps (F.told files.old) (asked_in words.now) steps.old steps.new }
+{
     run(alloc, words, files, sinks, steps)
 }
 
@@ -137,6 +151,8 @@ fn is_put_in_place<R: rt::Files + Print>(
     sinks: &DiskSinks<R>,
 ) -> bool
     ensures well { result ≡ false → (status.now ≡ Status.WriteFault) ⊎ (status.now ≡ Status.NoMemory) }
+    ensures cut { (status.now ≡ Status.WriteFault) ⊎ (status.now ≡ Status.NoMemory) → result ≡ true
+        → asks_session words.now ≡ true }
 {
     match status {
         Status::WriteFault | Status::NoMemory => is_session(words) && sinks.holds_bytes(),
@@ -145,7 +161,9 @@ fn is_put_in_place<R: rt::Files + Print>(
 }
 
 /// Whether the words ask for a session.
-fn is_session(words: &[String]) -> bool {
+fn is_session(words: &[String]) -> bool
+    ensures { result ≡ asks_session words.now }
+{
     match words.first() {
         Some(word) => word.as_str() == "session",
         None => false,

@@ -13,4 +13,3 @@ pub use check_command::check_map;
 pub use import_command::import_graph;
 pub use improve_command::improve_map;
 pub use make_command::make_map;
-pub use outputs::write_map;

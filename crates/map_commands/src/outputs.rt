@@ -132,7 +132,7 @@ fn unless_no_memory(fault: CheckFault) -> Result<Option<Output>, NoMemory>
 }
 
 /// The outputs of a map and its certificate to their files, the map first.
-pub fn write_map(
+pub(crate) fn write_map(
     alloc: Global,
     files: &MapFiles<'_>,
     made: Made,

@@ -74,18 +74,14 @@ answer_caused None told files_rose sinks_rose answer is = subst (λ (a : Answer)
 answer_caused (Some asked) told files_rose sinks_rose answer (result, comes, keeps, is) =
     subst (λ (a : Answer). IsCaused (Some asked) files_rose sinks_rose a.status) (sym is) (by_result result comes)
   where
-    read : Some asked ≢ None
-    read same = cc
-
     by_line : (line : Option ℕ) → IsCaused (Some asked) files_rose sinks_rose (status_at line)
-    by_line None = read
-    by_line (Some line) = read
+    by_line None = tt
+    by_line (Some line) = tt
 
     by_result : (r : Result Finished Refusal) → ComesTo told (input_path asked) files_rose (work asked) r → IsCaused (Some asked) files_rose sinks_rose (answer_by (input_path asked) r).status
     by_result (Ok finished) comes = by_line finished.bad_line
     by_result (Err (refused.ReadFault input)) comes = (comes.0, (asked, input, refl, refl, (comes.1.seen, comes.1.runs)))
-    by_result (Err refused.NoMemory) comes = tt
-    by_result (Err why) comes = read
+    by_result (Err why) comes = tt
 
 after_caused : (asked : Option Asked) (told : Told) (files_rose sinks_rose : Type 0) (answer : Answer) (line : List ℕ) (old new : Option Written) (ending : Ending)
     → IsAnswerTo asked told files_rose answer → IsDelivered answer.outputs line sinks_rose old new ending → IsCaused asked files_rose sinks_rose (status_after answer.status ending)

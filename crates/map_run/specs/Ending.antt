@@ -118,16 +118,5 @@ IsCaused asked files_rose sinks_rose status.Usage = asked ≡ None
 IsCaused asked files_rose sinks_rose (status.ReadFault path) =
     files_rose × ((command : Asked) × (input : Input) × (asked ≡ Some command) × (path ≡ input_path command input) × Reads command input)
 IsCaused asked files_rose sinks_rose status.WriteFault = sinks_rose
--- a feed is refused or worked on only where the words name one
-IsCaused asked files_rose sinks_rose status.Done = asked ≢ None
-IsCaused asked files_rose sinks_rose (status.Refuted item) = asked ≢ None
-IsCaused asked files_rose sinks_rose (status.BadSettings why) = asked ≢ None
-IsCaused asked files_rose sinks_rose (status.BadEdit line) = asked ≢ None
-IsCaused asked files_rose sinks_rose (status.BadGraph why) = asked ≢ None
-IsCaused asked files_rose sinks_rose (status.Missing path) = asked ≢ None
-IsCaused asked files_rose sinks_rose (status.BadRow table row why) = asked ≢ None
-IsCaused asked files_rose sinks_rose (status.NoRoute seg) = asked ≢ None
-IsCaused asked files_rose sinks_rose (status.Spent component branches) = asked ≢ None
-IsCaused asked files_rose sinks_rose (status.Limit limit) = asked ≢ None
--- want of memory is free
-IsCaused asked files_rose sinks_rose status.NoMemory = ⊤
+-- what words end with that are not read is said by itself; want of memory is free
+IsCaused asked files_rose sinks_rose other = ⊤

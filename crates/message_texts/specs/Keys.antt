@@ -1,5 +1,7 @@
--- The keys of a file of settings.
+-- The keys of a file of settings, and the words that begin edits.
 use Rattle.std.specs.Prelude.{ℕ, List, codes}
+use Rattle.message_texts.specs.declared.edit_word.EditWord.{EditWord}
+use Rattle.message_texts.specs.declared.edit_word.EditWord.TheVariants as edit
 use Rattle.message_texts.specs.declared.setting_key.SettingKey.{SettingKey}
 use Rattle.message_texts.specs.declared.setting_key.SettingKey.TheVariants as key
 
@@ -18,3 +20,17 @@ key_name key.Moves = codes "moves"
 key_name key.Search = codes "search"
 key_name key.Proof = codes "proof"
 key_name key.Budget = codes "budget"
+
+-- a word as it is written
+abbrev pub word_name : EditWord → List ℕ
+word_name edit.Hide = codes "hide"
+word_name edit.Show = codes "show"
+word_name edit.Rename = codes "rename"
+word_name edit.Move = codes "move"
+word_name edit.Colour = codes "colour"
+word_name edit.Importance = codes "importance"
+word_name edit.Weight = codes "weight"
+word_name edit.Near = codes "near"
+word_name edit.Cell = codes "cell"
+word_name edit.Budget = codes "budget"
+word_name edit.Undo = codes "undo"

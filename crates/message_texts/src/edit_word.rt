@@ -1,5 +1,8 @@
 //! The words that begin edits, and what stands behind each.
 
+ghost use Rattle.std.specs.Prelude.{◌≡◌, ◌≢◌, IfNone, IfSome};
+ghost use Rattle.message_texts.specs.Keys.{word_name};
+
 /// The first word of an edit.
 #[derive(Clone, Copy, Debug, PartialEq, Eq)]
 pub enum EditWord {
@@ -33,7 +36,9 @@ pub const EDIT_WORDS: [EditWord; 11] = [
 
 impl EditWord {
     /// The word as it is written.
-    pub fn name(self) -> &'static str {
+    pub fn name(self) -> &'static str
+        ensures { result.now ≡ word_name self }
+    {
         match self {
             EditWord::Hide => "hide",
             EditWord::Show => "show",
@@ -50,7 +55,10 @@ impl EditWord {
     }
 
     /// The word that is written so, if there is one.
-    pub fn named(text: &str) -> Option<EditWord> {
+    pub fn named(text: &str) -> Option<EditWord>
+        ensures some { IfSome result (λ word. word_name word ≡ text.now) }
+        ensures none { IfNone result ((word : EditWord) → word_name word ≢ text.now) }
+    {
         for word in EDIT_WORDS {
             if word.name() == text {
                 return Some(word);

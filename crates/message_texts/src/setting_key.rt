@@ -1,6 +1,6 @@
 //! The keys of a file of settings, and which values they take.
 
-ghost use Rattle.std.specs.Prelude.{◌≡◌, IfSome};
+ghost use Rattle.std.specs.Prelude.{◌≡◌, ◌≢◌, IfNone, IfSome};
 ghost use Rattle.message_texts.specs.Keys.{key_name};
 
 /// A key of a file of settings.
@@ -62,7 +62,8 @@ impl SettingKey {
 
     /// The key that is written so, if there is one.
     pub fn named(text: &str) -> Option<SettingKey>
-        ensures { IfSome result (λ key. key_name key ≡ text.now) }
+        ensures some { IfSome result (λ key. key_name key ≡ text.now) }
+        ensures none { IfNone result ((key : SettingKey) → key_name key ≢ text.now) }
     {
         for key in SETTING_KEYS {
             if key.name() == text {

@@ -1,6 +1,6 @@
 //! How wide texts are.
 
-ghost use Rattle.std.specs.Prelude.{◌≡◌, ◌≤◌, ◌*◌, IfOk};
+ghost use Rattle.std.specs.Prelude.{◌≡◌, ◌≤◌, ◌<◌, ◌*◌, IfOk, IfErr};
 ghost use Rattle.name_widths.specs.Widths.{char_width, is_capital, is_one_of, narrow, text_width, wide};
 
 use map_base::NoMemory;
@@ -9,6 +9,7 @@ use map_base::NoMemory;
 pub fn text_width(text: &str) -> Result<u64, NoMemory>
     ensures value { IfOk result (λ w. w ≡ text_width text.now) }
     ensures small { IfOk result (λ w. w ≤ 1152921504606846986) }
+    ensures room { IfErr result (λ _. 1152921504606846976 < text_width text.now) }
 {
     let mut width: u64 = 0;
     for c in text.chars() {

@@ -1,5 +1,5 @@
 -- What a command writes and reads by path, and which two of these files are one.
-use Rattle.std.specs.Prelude.{ℕ, Bool, true, false, List, [], ◌∷◌, ◌++◌, Option, None, Some, is_some, option_map, if◌then◌else◌}
+use Rattle.std.specs.Prelude.{ℕ, Bool, true, false, List, [], ◌∷◌, ◌++◌, Contains, Option, None, Some, is_some, option_map, if◌then◌else◌}
 use Rattle.std.specs.List.{find}
 use Rattle.std.specs.Option.{option_or}
 use Rattle.table_rows.specs.declared.why.Table.TheVariants.{Routes, Stops, Trips, Shapes, StopTimes}
@@ -102,3 +102,7 @@ clash_with same output paths = option_map (λ other. record { output = output; o
 abbrev pub first_clash : (List ℕ → List ℕ → Bool) → List (List ℕ) → List (List ℕ) → Option Clash
 first_clash same [] paths = None
 first_clash same (output ∷ more) paths = option_or (clash_with same output paths) (first_clash same more (paths ++ output ∷ []))
+
+-- what is written is one of these outputs, and what it is one file with is one of these paths, or of the outputs
+abbrev pub IsAmong : List (List ℕ) → List (List ℕ) → Clash → Type 0
+IsAmong outputs paths clash = Contains outputs clash.output × Contains (paths ++ outputs) clash.other

@@ -1,10 +1,10 @@
 //! Which output of a command is a file that it reads, or another of its outputs.
 
-ghost use Rattle.std.specs.Prelude.{◌≡◌, [], ◌∷◌, IfOk, IfSome, OnOk, option_map};
+ghost use Rattle.std.specs.Prelude.{◌≡◌, [], ◌∷◌, Contains, IfOk, IfSome, OnOk, option_map};
 ghost use Rattle.std.specs.List.{find};
 ghost use Rattle.command_paths.specs.Paths.{new_paths_by};
 ghost use Rattle.command_words.specs.Asked.{asked_by};
-ghost use Rattle.output_guard.specs.Guarded.{clash_with, files_of, first_clash, has_feed, has_certificate, has_picture, has_script, is_read, outputs_of, page_file, paths_read, with_read, with_tables, has_graph};
+ghost use Rattle.output_guard.specs.Guarded.{IsAmong, clash_with, files_of, first_clash, has_feed, has_certificate, has_picture, has_script, is_read, outputs_of, page_file, paths_read, with_read, with_tables, has_graph};
 
 use crate::outputs::{Outputs, outputs_of};
 use asked_inputs::{inputs_of, path_for};
@@ -32,8 +32,10 @@ pub fn clash_of<D: Leads>(
     command: &Command<'_>,
     disk: &D,
 ) -> Result<Option<Clash>, NoMemory>
-    ensures { IfOk result (λ found. IfSome (D.same disk.now) (λ same.
+    ensures first { IfOk result (λ found. IfSome (D.same disk.now) (λ same.
         found ≡ first_clash same (outputs_of (asked_by command.now)) (paths_read (asked_by command.now)))) }
+    // Whatever the disk tells, the paths of a clash are the command's.
+    ensures among { IfOk result (λ found. IfSome found (IsAmong (outputs_of (asked_by command.now)) (paths_read (asked_by command.now)))) }
 {
     match outputs_of(command) {
         Outputs::Nothing => Ok(None),
@@ -55,8 +57,9 @@ fn clash_of_map<D: Leads>(
     files: NewFiles<'_>,
     read: Vec<Text>,
 ) -> Result<Option<Clash>, NoMemory>
-    ensures { IfOk result (λ found. IfSome (D.same disk.now) (λ same.
+    ensures first { IfOk result (λ found. IfSome (D.same disk.now) (λ same.
         found ≡ first_clash same (files_of (new_paths_by files.entry)) read.items)) }
+    ensures among { IfOk result (λ found. IfSome found (IsAmong (files_of (new_paths_by files.entry)) read.items)) }
 {
     let mut others = read;
     if let Some(clash) = clash_among(alloc, disk, files.map.picture, &others)? {
@@ -77,8 +80,10 @@ fn clash_of_page<D: Leads>(
     page: Option<&str>,
     others: &[Text],
 ) -> Result<Option<Clash>, NoMemory>
-    ensures { IfOk result (λ found. IfSome (D.same disk.now) (λ same.
+    ensures first { IfOk result (λ found. IfSome (D.same disk.now) (λ same.
         found ≡ first_clash same (page_file (option_map (λ path. path.now) page.entry)) others.now)) }
+    ensures output { IfOk result (λ found. IfSome found (λ clash. Contains (page_file (option_map (λ path. path.now) page.entry)) clash.output)) }
+    ensures other { IfOk result (λ found. IfSome found (λ clash. Contains others.now clash.other)) }
 {
     match page {
         None => Ok(None),
@@ -93,7 +98,9 @@ fn clash_among<D: Leads>(
     output: &str,
     others: &[Text],
 ) -> Result<Option<Clash>, NoMemory>
-    ensures { IfOk result (λ found. IfSome (D.same disk.now) (λ same. found ≡ clash_with same output.now others.now)) }
+    ensures first { IfOk result (λ found. IfSome (D.same disk.now) (λ same. found ≡ clash_with same output.now others.now)) }
+    ensures output { IfOk result (λ found. IfSome found (λ clash. clash.output ≡ output.now)) }
+    ensures other { IfOk result (λ found. IfSome found (λ clash. Contains others.now clash.other)) }
 {
     match first_same(disk, output, others)? {
         None => Ok(None),
@@ -111,7 +118,8 @@ fn first_same<'a, D: Leads>(
     output: &str,
     others: &'a [Text],
 ) -> Result<Option<&'a str>, NoMemory>
-    ensures { IfOk result (λ found. IfSome (D.same disk.now) (λ same. option_map (λ path. path.now) found ≡ find (same output.now) others.now)) }
+    ensures first { IfOk result (λ found. IfSome (D.same disk.now) (λ same. option_map (λ path. path.now) found ≡ find (same output.now) others.now)) }
+    ensures other { IfOk result (λ found. IfSome found (λ path. Contains others.now path.now)) }
 {
     for other in others {
         if disk.are_one(output, other.as_str())? {

@@ -1,6 +1,6 @@
 //! Prices noted by the number of their Link.
 
-ghost use Rattle.std.specs.Prelude.{◌≡◌, ℕ, ◌==◌, ◌<◌, pos, length, IfOk, if◌then◌else◌};
+ghost use Rattle.std.specs.Prelude.{◌≡◌, ℕ, ◌==◌, ◌<◌, pos, length, replicate, IfOk, if◌then◌else◌};
 ghost use Rattle.pair_bounds.specs.PriceNotes.{price_noted};
 
 use map_base::NoMemory;
@@ -15,7 +15,7 @@ pub struct NotedPrices {
 impl NotedPrices {
     /// No price yet, for so many terms.
     pub fn none(alloc: Global, terms: usize) -> Result<NotedPrices, NoMemory>
-        ensures { IfOk result (λ n. length n.prices.items ≡ terms) }
+        ensures none { IfOk result (λ n. n.prices.items ≡ replicate terms (pos 0)) }
     {
         let prices = vec![in alloc; 0_i64; terms]?;
         Ok(NotedPrices { prices })

@@ -1,6 +1,6 @@
 //! The lines that are on segments, for the legend.
 
-ghost use Rattle.std.specs.Prelude.{◌≡◌, ◌<◌, ◌^◌, ◌||◌, ◌==◌, ◌++◌, ◌∷◌, [], if◌then◌else◌, ℕ, false, length, slice_index_or, IfOk, OnOk};
+ghost use Rattle.std.specs.Prelude.{◌≡◌, ◌<◌, ◌^◌, ◌||◌, ◌==◌, ◌++◌, ◌∷◌, [], if◌then◌else◌, ℕ, false, length, slice_index_or, IfErr, IfOk, OnOk};
 ghost use Rattle.poster_rules.specs.Stations.{has_line};
 ghost use Rattle.poster_rules.specs.Plans.{line_numbered, lines_shown, widest};
 ghost use Rattle.poster_graph.specs.Flags.{flagged, is_on, AreFlags};
@@ -81,9 +81,11 @@ fn put_flagged(lines: &mut Vec<LineId>, number: u32, flag: bool) -> Result<(), N
     Ok(())
 }
 
-/// How wide the widest of the names of these lines is, at a size of 30 units.
+/// How wide the widest of the names of these lines is, at a size of 30 units. For more than can be reckoned with there is no
+/// room.
 pub fn widest(names: &Names, lines: &[LineId]) -> Result<TextWidth, NoMemory>
-    ensures { IfOk result (λ most. most ≡ widest names.now lines.now) }
+    ensures value { IfOk result (λ most. most ≡ widest names.now lines.now) }
+    ensures room { IfErr result (λ _. 17179869184 < widest names.now lines.now) }
 {
     let mut most: u64 = 0;
     for line in lines {

@@ -49,12 +49,13 @@ impl Queue {
     }
 
     /// Takes a least estimate that waits, with its state, where it is within a limit; none where nothing waits or all that
-    /// waits is beyond the limit.
+    /// waits is beyond the limit, and then all of it goes on waiting.
     pub fn next(&mut self, limit: Option<u64>) -> Option<(u64, u32)>
         ensures taken { IfSome result (λ w. IsPermutation self.old (entry w.0 w.1 ∷ self.new)) }
         ensures least { IfSome result (λ w. (s k : ℕ) → Waits self.old s k → w.0 ≤ k) }
         ensures within { IfSome result (λ w. IsBeyond limit w.0 → ⊥) }
         ensures none { IfNone result ((s k : ℕ) → Waits self.old s k → IsBeyond limit k) }
+        ensures kept { IfNone result (self.new ≡ self.old) }
     {
         if is_least(self.level, &self.here, &self.apart) {
             if is_beyond(limit, self.level) {
@@ -102,7 +103,7 @@ fn is_least(level: u64, here: &[u32], apart: &BinaryHeap<Reverse<(u64, u32)>>) -
     }
 }
 
-/// Takes the least entry of a heap, if it is within a limit.
+/// Takes the least entry of a heap, if it is within a limit; else the heap keeps what it has.
 fn take_least(apart: &mut BinaryHeap<Reverse<(u64, u32)>>, limit: Option<u64>) -> Option<(u64, u32)>
     requires order { IsHeap queue_cmp (heap_items apart.old) }
     ensures order { IsHeap queue_cmp (heap_items apart.new) }
@@ -110,11 +111,12 @@ fn take_least(apart: &mut BinaryHeap<Reverse<(u64, u32)>>, limit: Option<u64>) -
     ensures least { IfSome result (λ w. (s k : ℕ) → Waits (heap_items apart.old) s k → w.0 ≤ k) }
     ensures within { IfSome result (λ w. IsBeyond limit w.0 → ⊥) }
     ensures none { IfNone result ((s k : ℕ) → Waits (heap_items apart.old) s k → IsBeyond limit k) }
+    ensures kept { IfNone result (heap_items apart.new ≡ heap_items apart.old) }
 {
-    let Reverse(least) = apart.pop()?;
-    if is_beyond(limit, least.0) {
+    if is_beyond(limit, apart.peek()?.0.0) {
         return None;
     }
+    let Reverse(least) = apart.pop()?;
     Some(least)
 }
 

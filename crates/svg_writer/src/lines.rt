@@ -1,6 +1,6 @@
 //! The lines on segments, and those from segment to segment.
 
-ghost use Rattle.std.specs.Prelude.{◌≡◌, ◌++◌, ◌≤◌, ◌<◌, length, slice_index_or, unsigned_abs, IfOk, OnOk, string_bytes};
+ghost use Rattle.std.specs.Prelude.{◌≡◌, ◌++◌, ◌≤◌, ◌<◌, ◌↔◌, length, slice_index_or, unsigned_abs, IfOk, IsOk, OnOk, string_bytes};
 ghost use Rattle.svg_writer.specs.Elements.{texts};
 ghost use Rattle.svg_writer.specs.Courses.{gauge, AreInReach};
 ghost use Rattle.svg_writer.specs.Picture.{end_at, segment_elements, no_line, line_text, place_in, line_end, are_one, between, join_elements, node_joins, all_lines, all_joins};
@@ -14,11 +14,13 @@ use line_offsets::Corner;
 use map_base::{LineId, NoMemory, NodeId, SegId};
 use std::alloc::Global;
 
-/// How many places line i of n stands to the right of the middle, doubled.
+/// How many places line i of n stands to the right of the middle, doubled. For more lines than can be reckoned with there
+/// is no room.
 pub fn gauge(n: usize, i: usize) -> Result<i32, NoMemory>
     requires { i ≤ n }
     ensures value { IfOk result (λ k. k ≡ gauge n i) }
     ensures small { IfOk result (λ k. unsigned_abs k ≤ 200000001) }
+    ensures room { IsOk result ↔ (n ≤ 100000000) }
 {
     let n = small_count(n)?;
     let i = i as i32;

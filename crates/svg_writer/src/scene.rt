@@ -1,6 +1,6 @@
 //! What is drawn, and what there is of each thing.
 
-ghost use Rattle.std.specs.Prelude.{◌≡◌, ◌≤◌, pos, length, IfOk};
+ghost use Rattle.std.specs.Prelude.{◌≡◌, ◌≤◌, ◌↔◌, pos, length, IfOk, IsOk};
 ghost use Rattle.svg_writer.specs.Courses.{order_at};
 ghost use Rattle.svg_writer.specs.Picture.{colour_of, ends_at, lines_at, name_of, round_at, station_name};
 
@@ -22,7 +22,8 @@ pub(crate) struct Scene<'a, D> {
 
 /// A count that is small enough to reckon with. More things than that have no room.
 pub(crate) fn small_count(count: usize) -> Result<i32, NoMemory>
-    ensures { IfOk result (λ n. (n ≡ pos count) × (count ≤ 100000000)) }
+    ensures value { IfOk result (λ n. (n ≡ pos count) × (count ≤ 100000000)) }
+    ensures room { IsOk result ↔ (count ≤ 100000000) }
 {
     if count > 100_000_000 {
         return Err(NoMemory);

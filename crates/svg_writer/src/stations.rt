@@ -1,6 +1,6 @@
 //! The markers of stations, and their names.
 
-ghost use Rattle.std.specs.Prelude.{◌≡◌, ◌++◌, ◌≤◌, ◌<◌, ◌+◌, ◌*◌, length, unsigned_abs, IfOk, OnOk, string_bytes};
+ghost use Rattle.std.specs.Prelude.{◌≡◌, ◌++◌, ◌≤◌, ◌<◌, ◌+◌, ◌*◌, ◌↔◌, length, unsigned_abs, IfOk, IsOk, OnOk, string_bytes};
 ghost use Rattle.svg_writer.specs.Elements.{texts};
 ghost use Rattle.svg_writer.specs.Picture.{most_lines, radius_in, radius_of, beside, marker, label, kind_at, round_at, all_markers, all_labels, spot_at, placed_label, placed_labels};
 
@@ -164,11 +164,13 @@ fn beside(gap: u16, centre: Corner, radius: u64) -> Corner
 }
 
 /// The radius of the marker of a node on the grid: seven units for each line of the segment there with the most, and three.
+/// For more lines than can be reckoned with there is no room.
 pub fn radius_of(graph: &LineGraph, n: NodeId) -> Result<u32, NoMemory>
     requires node { n.0 < length graph.now.kinds }
     requires lines { length graph.now.lines ≡ length graph.now.ends }
     ensures value { IfOk result (λ r. r ≡ radius_of graph.now n.0) }
     ensures small { IfOk result (λ r. r ≤ 700000003) }
+    ensures room { IsOk result ↔ (most_lines graph.now.lines (round_at graph.now.rounds n.0) ≤ 100000000) }
 {
     let radius = radius_in(grid_style(), graph, n)?;
     Ok(radius as u32)
@@ -181,6 +183,7 @@ fn radius_in(style: Style, graph: &LineGraph, n: NodeId) -> Result<u64, NoMemory
     ensures value { IfOk result (λ r. r ≡ radius_in style graph.now n.0) }
     ensures few { IfOk result (λ _. most_lines graph.now.lines (round_at graph.now.rounds n.0) ≤ 100000000) }
     ensures small { IfOk result (λ r. r ≤ 6553500065535) }
+    ensures room { IsOk result ↔ (most_lines graph.now.lines (round_at graph.now.rounds n.0) ≤ 100000000) }
 {
     let most = small_count(most_lines(graph, graph.round(n)))?;
     Ok(radius_with(style.radius_each, style.radius_more, most as u64))

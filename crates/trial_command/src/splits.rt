@@ -1,7 +1,7 @@
 //! How many splits the trees of a proof have. More of them than a number of 64 bits counts are in no memory, so that is
 //! answered as want of it.
 
-ghost use Rattle.std.specs.Prelude.{◌≡◌, ◌+◌, map, IfOk};
+ghost use Rattle.std.specs.Prelude.{◌≡◌, ◌≤◌, ◌+◌, ◌^◌, map, IfErr, IfOk};
 ghost use Rattle.order_proof.specs.Plain.{plain, plain_part, plain_part_tree};
 ghost use Rattle.order_proof.specs.Trees.{splits_of};
 ghost use Rattle.trial_command.specs.Trials.{splits_of_parts, splits_of_tree};
@@ -11,7 +11,8 @@ use order_proof::{Part, PartTree, Tree};
 
 /// The splits of the trees of all parts.
 pub fn splits_of_parts(parts: &[Part]) -> Result<u64, NoMemory>
-    ensures { IfOk result (λ count. count ≡ splits_of_parts (map plain_part parts.now)) }
+    ensures value { IfOk result (λ count. count ≡ splits_of_parts (map plain_part parts.now)) }
+    ensures room { IfErr result (λ _. 2 ^ 64 ≤ splits_of_parts (map plain_part parts.now)) }
 {
     let mut count = 0;
     for part in parts {
@@ -22,7 +23,8 @@ pub fn splits_of_parts(parts: &[Part]) -> Result<u64, NoMemory>
 
 /// The count with the splits of a part's tree. A dual tree has none.
 fn with_part(before: u64, tree: &PartTree) -> Result<u64, NoMemory>
-    ensures { IfOk result (λ count. count ≡ before + splits_of_tree (plain_part_tree tree.now)) }
+    ensures value { IfOk result (λ count. count ≡ before + splits_of_tree (plain_part_tree tree.now)) }
+    ensures room { IfErr result (λ _. 2 ^ 64 ≤ before + splits_of_tree (plain_part_tree tree.now)) }
 {
     match tree {
         PartTree::ByCases(tree) => with_splits(before, tree),
@@ -33,7 +35,8 @@ fn with_part(before: u64, tree: &PartTree) -> Result<u64, NoMemory>
 /// The count with the splits of a tree.
 #[tactic(auto, using(crate::proofs::SplitLemmas::splits_next))]
 fn with_splits(before: u64, tree: &Tree) -> Result<u64, NoMemory>
-    ensures { IfOk result (λ count. count ≡ before + splits_of (plain tree.now)) }
+    ensures value { IfOk result (λ count. count ≡ before + splits_of (plain tree.now)) }
+    ensures room { IfErr result (λ _. 2 ^ 64 ≤ before + splits_of (plain tree.now)) }
 {
     match tree {
         Tree::Close { .. } => Ok(before),
@@ -49,7 +52,8 @@ fn with_splits(before: u64, tree: &Tree) -> Result<u64, NoMemory>
 
 /// The next number.
 fn one_more(count: u64) -> Result<u64, NoMemory>
-    ensures { IfOk result (λ next. next ≡ count + 1) }
+    ensures value { IfOk result (λ next. next ≡ count + 1) }
+    ensures room { IfErr result (λ _. 2 ^ 64 ≤ count + 1) }
 {
     match count.checked_add(1) {
         Some(next) => Ok(next),

@@ -3,9 +3,14 @@ use Rattle.std.specs.Str.{chars}
 use Rattle.std.proofs.lemmas.Iterator.{YieldsList-from_chars}
 use Rattle.std.proofs.lemmas.Iterator.Consumers.{YieldsList-turn, YieldsList-end}
 use Rattle.std.proofs.lemmas.List.{length_push, take_all}
+use Rattle.std.proofs.lemmas.List.Sums.{sum_by-take-le}
 use Rattle.name_widths.specs.Widths.{char_width}
 use Rattle.name_widths.proofs.Summing.{sum_more}
 use Rattle.name_widths.proofs.widths.text_width.Goals as goal
+
+pub returns-then-width-gt1152921504606846976-clause-room : goal.returns-then-width-gt1152921504606846976-clause-room
+returns-then-width-gt1152921504606846976-clause-room c =
+    omega (arith, sum_by-take-le char_width (chars c.args.text.now) (length c.loop-c.yielded), c.loop-c.invariant.value, c.if-width-gt1152921504606846976.true)
 
 pub loop-c-preserved : goal.loop-c-preserved
 loop-c-preserved c =

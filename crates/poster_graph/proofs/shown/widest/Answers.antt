@@ -1,10 +1,11 @@
-use Rattle.std.proofs.Common.{◌≡◌, ℕ, ◌*◌, max, get_or, ap, sym, ◌∙◌, arith}
+use Rattle.std.proofs.Common.{◌≡◌, ℕ, ◌*◌, ◌<◌, max, List, get_or, ap, subst, sym, ◌∙◌, arith}
 use Rattle.std.proofs.lemmas.List.{take_all}
 use Rattle.std.proofs.lemmas.List.Sums.{fold_more}
 use Rattle.map_base.specs.declared.ids.LineId.{LineId}
 use Rattle.svg_writer.specs.Picture.{name_of}
 use Rattle.name_widths.specs.Widths.{text_width}
 use Rattle.poster_rules.specs.Plans.{widest}
+use Rattle.poster_graph.proofs.Steps.{max_at, no_more_below}
 use Rattle.poster_graph.proofs.shown.widest.Goals as goal
 
 abbrev none : LineId
@@ -21,5 +22,19 @@ loop-line-preserved c =
     ∙ ap (λ (most : ℕ). wider most (get_or lines i none)) c.loop-line.invariant
     ∙ sym (fold_more wider 0 lines i none c.loop-line-test.true)
 
-pub returns : goal.returns
-returns c = c.in_ok-whole.ensures.value ∙ c.loop-line.invariant ∙ ap (widest c.args.names.now) (take_all c.loop-line.line-index c.args.lines.now (omega arith))
+pub returns-in_err-width-clause-room : goal.returns-in_err-width-clause-room
+returns-in_err-width-clause-room c =
+    let lines = c.args.lines.now in
+    let i = c.loop-line.line-index in
+    let name : LineId → List ℕ = λ l. name_of c.args.names.now l in
+    let wide : 1152921504606846976 < text_width (name (get_or lines i none)) =
+    subst (λ (n : List ℕ). 1152921504606846976 < text_width n) c.name_of.ensures c.in_err-width.ensures.room in
+    omega (arith, wide, max_at (λ (l : LineId). 3 * text_width (name l)) 0 lines i none c.loop-line-test.true)
+
+pub returns-in_err-whole-clause-room : goal.returns-in_err-whole-clause-room
+returns-in_err-whole-clause-room c =
+    subst (λ (n : ℕ). 17179869184 < n) (c.loop-line.invariant ∙ ap (widest c.args.names.now) (take_all c.loop-line.line-index c.args.lines.now (omega arith)))
+    (no_more_below c.loop-line.most 17179869184 c.in_err-whole.ensures.room.1)
+
+pub returns-clause-value : goal.returns-clause-value
+returns-clause-value c = c.in_ok-whole.ensures.value ∙ c.loop-line.invariant ∙ ap (widest c.args.names.now) (take_all c.loop-line.line-index c.args.lines.now (omega arith))

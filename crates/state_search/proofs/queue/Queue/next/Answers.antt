@@ -1,7 +1,7 @@
 use Rattle.std.proofs.Common.{◌≡◌, sym, ◌∙◌, ap, subst, ℕ, ◌≤◌, ◌⊎◌, inl, inr, List, []}
 use Rattle.std.specs.declared.cmp.Reverse.{Reverse}
 use Rattle.std.specs.BinaryHeap.{IsHeap-prop, heap_items}
-use Rattle.state_search.specs.Searching.{HasBelow, IsBeyond, queue_cmp, Waits}
+use Rattle.state_search.specs.Searching.{all_waiting, HasBelow, IsBeyond, queue_cmp, Waits}
 use Rattle.state_search.proofs.Queues.{all_no_less, apart_beyond, apart_no_more, farther_beyond, taken_apart, taken_here}
 use Rattle.state_search.proofs.queue.Queue.next.Goals as goal
 
@@ -35,6 +35,11 @@ returns-in_default-take_least-clause-none c =
     subst (λ (q : List (Reverse (ℕ × ℕ))). (s k : ℕ) → Waits q s k → IsBeyond c.args.limit k) c.self.view_is
     (apart_beyond c.args.limit c.self.inside.level c.self.inside.here.items apart
     (lower c.self.inside.level c.deref.result.now c.self.inside.here.items apart c.deref.ensures.value (c.is_least.ensures.no c.if-is_least.false)) c.in_default-take_least.ensures.none)
+
+pub returns-in_default-take_least-clause-kept : goal.returns-in_default-take_least-clause-kept
+returns-in_default-take_least-clause-kept c =
+    ap (λ (heap : List (Reverse (ℕ × ℕ))). all_waiting c.self.inside.level c.self.inside.here.items heap) c.in_default-take_least.ensures.kept
+    ∙ c.self.view_is
 
 pub returns-then-is_empty-clause-least : goal.returns-then-is_empty-clause-least
 returns-then-is_empty-clause-least c =
