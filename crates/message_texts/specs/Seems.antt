@@ -11,10 +11,13 @@ abbrev pub begins_so : List ℕ → List ℕ → Bool
 begins_so path letters =
     if nat_le (length letters) (length path) then str_eq_ignore_ascii_case (take (length letters) path) letters else false
 
--- an address: of the web, of a server of files, or of a file
+-- an address of the web
+abbrev pub is_of_web : List ℕ → Bool
+is_of_web path = begins_so path (codes "http://") || begins_so path (codes "https://")
+
+-- an address of the web, of a server of files, or of a file
 abbrev pub is_address : List ℕ → Bool
-is_address path =
-    (begins_so path (codes "http://") || begins_so path (codes "https://")) || (begins_so path (codes "ftp://") || begins_so path (codes "file://"))
+is_address path = is_of_web path || (begins_so path (codes "ftp://") || begins_so path (codes "file://"))
 
 -- where nothing lies: no path, an address, or the path of nothing
 abbrev pub of_nothing : List ℕ → Seeming
