@@ -56,7 +56,7 @@ pub(crate) fn unwritten(
     }
 }
 
-/// What an output of a command without a path is called: standard output, or else a file that could not be put in its place.
+/// What an output whose path isn't known is called: standard output, or a file that couldn't be put in its place.
 fn nameless(command: &Command<'_>) -> &'static str {
     match command {
         Command::Stations { .. }
