@@ -17,8 +17,8 @@ pub(crate) fn is_set<R: Files + AllocGlobal>(
     Ok(!value.is_empty())
 }
 
-/// What the user set a key to, as TOML writes it: by the last `--set` that has the key, or else in the file of settings.
-/// Empty where the key is not set.
+/// What the user set a key to, as TOML writes it: by the last `--set` that has the key, or else in the file of
+/// settings. Empty where the key is not set.
 pub(crate) fn set_value<R: Files + AllocGlobal>(
     rt: &R,
     options: &Options<'_>,
