@@ -91,7 +91,7 @@ fn of_size(alloc: Global, of_graph: bool, status: &Status) -> Result<String, NoM
 }
 
 /// Whether the command makes a map of a file with a line graph.
-fn is_import(command: &Command<'_>) -> bool {
+pub(crate) fn is_import(command: &Command<'_>) -> bool {
     match command {
         Command::Import { .. } => true,
         _ => false,

@@ -1,5 +1,6 @@
 //! No grid gives each segment a way.
 
+use crate::messages::is_import;
 use crate::set_keys::{is_set, set_value};
 use crate::station_words::{far_line, node_name};
 use command_inputs::Inputs;
@@ -77,10 +78,7 @@ fn hint<R: Files + AllocGlobal>(
     most: usize,
 ) -> Result<String, NoMemory> {
     let alloc = rt.alloc();
-    let is_import = match command {
-        Command::Import { .. } => true,
-        _ => false,
-    };
+    let is_import = is_import(command);
     if most > DIRECTIONS {
         return Ok(String::from_str(alloc, fewer_there(is_import))?);
     }
