@@ -44,10 +44,7 @@ fn wrong_in<R: Files + AllocGlobal>(
 ) -> Result<String, NoMemory> {
     let alloc = rt.alloc();
     if str::from_utf8(line).is_err() {
-        return Ok(String::from_str(
-            alloc,
-            "the line is not UTF-8; save the file as UTF-8",
-        )?);
+        return Ok(String::from_str(alloc, "the line is not UTF-8; save the file as UTF-8")?);
     }
     match trouble_of(alloc, line)? {
         Trouble::Reads(edit) => not_due(rt, inputs.feed, &edit),

@@ -234,13 +234,7 @@ fn repeated(
         Some(number) => format!(in alloc; ", as in row {number}")?,
         None => String::new(alloc),
     };
-    bad_field(
-        alloc,
-        bad,
-        found,
-        said.as_str(),
-        due_in(bad.table, bad.why),
-    )
+    bad_field(alloc, bad, found, said.as_str(), due_in(bad.table, bad.why))
 }
 
 /// A row names what another table, or another row, doesn't have.
@@ -292,9 +286,7 @@ fn other_kind(alloc: Global, why: Why, kind: &[u8]) -> Result<String, NoMemory> 
         Why::UnknownParent => due_in(Table::Stops, why),
         _ => "a trip calls at a stop or a station",
     };
-    Ok(format!(in alloc;
-        "the row of stops.txt with this stop_id has location_type {kind}; {due}"
-    )?)
+    Ok(format!(in alloc; "the row of stops.txt with this stop_id has location_type {kind}; {due}")?)
 }
 
 /// The location type, as it is written, of the row of stops.txt with this id; none where there is no such row.
