@@ -11,27 +11,27 @@ pub const VERSION: &str = "0.1.0";
 pub(crate) const AFTER_PROGRAM: &str = "\
 `octimap help COMMAND` tells what a command takes, with an example.
 
-Examples:
-  octimap map examples/vienna-ubahn map.svg map.cert
-  octimap check examples/vienna-ubahn map.svg map.cert
-  octimap labels examples/vienna-ubahn map.cert labelled.svg
-  octimap geo examples/vienna-ubahn map.cert ground.svg
-  octimap poster examples/vienna-ubahn map.cert poster.svg
+Examples (`feed` is the folder of an unpacked feed):
+  octimap map feed map.svg map.cert
+  octimap check feed map.svg map.cert
+  octimap labels feed map.cert labelled.svg
+  octimap geo feed map.cert ground.svg
+  octimap poster feed map.cert poster.svg
   octimap page map.svg map.html
-  octimap session examples/vienna-ubahn examples/session.txt draws.txt
-  octimap graph examples/vienna-ubahn
-  octimap export examples/vienna-ubahn graph.json
+  octimap session feed my.script draws
+  octimap graph feed
+  octimap export feed graph.json
   octimap import graph.json map.svg map.cert
-  octimap stations examples/vienna-ubahn
+  octimap stations feed
   octimap trial 152
 
 Exit status:
    0  done
    1  the map or its certificate is refused; the line names the first item that is wrong
-   2  the words were not understood, or help was asked for
+   2  the words were not understood, help was asked for, or an output is an input or another output
    3  the feed has a bad row; the line names the table, the row and the reason
-   4  no grid is fine enough for the network; the line names the first segment without a way
-   5  the search for line orders took too long; the line names the part and its branch nodes
+   4  no grid that was tried has room for the network; the line names the first segment without a way
+   5  the search for line orders was longer than its budget; the line names the part and its branch nodes
    6  a file is longer than allowed, or the feed has more of something than is worked on
    7  a file could not be read
    8  the output could not be written
@@ -39,7 +39,7 @@ Exit status:
   10  the settings are bad; the line names the key
   11  an edit is bad; the line names its line in the file, or 0 where there is no file
   12  the graph file is bad; the line names what is wrong
-  13  a file that is needed is not there; the line names it";
+  13  the map or poster for `page` is not there; the line names it";
 
 pub(crate) const STATIONS: &str = "Print each station of a feed: its place and its id";
 
@@ -48,7 +48,7 @@ A line X Y ID stands for each station of FEED/stops.txt. X and Y are whole decim
 from 0 degrees. Other tables are not read.
 
 Example:
-  octimap stations examples/vienna-ubahn";
+  octimap stations feed";
 
 pub(crate) const GRAPH: &str = "Print the line graph of a feed: what a map of it shows";
 
@@ -57,7 +57,7 @@ It has the nodes with their places, the segments with their lines, the segments 
 north, and where lines go on from segment to segment. X and Y are whole decimetres.
 
 Example:
-  octimap graph examples/vienna-ubahn";
+  octimap graph feed";
 
 pub(crate) const EXPORT: &str = "Write the line graph of a feed as GeoJSON";
 
@@ -67,16 +67,16 @@ its name; segments are LineStrings with the numbers of their two nodes and of th
 with names, colours and importance. Coordinates are whole decimetres, X eastwards and Y northwards, and not degrees.
 
 Example:
-  octimap export examples/vienna-ubahn graph.json";
+  octimap export feed graph.json";
 
 pub(crate) const IMPORT: &str = "Make the map of a graph file, and its certificate";
 
 pub(crate) const AFTER_IMPORT: &str = "\
 JSON is a file as `octimap export` writes it, of a feed or changed by hand. Of the settings those count that draw a map
-and order its lines; what a feed is chosen and named by stands in the file.
+and order its lines; `types`, `near` and `importance` have no effect, since the file has what they decide.
 
 Example:
-  octimap export examples/vienna-ubahn graph.json
+  octimap export feed graph.json
   octimap import graph.json map.svg map.cert";
 
 pub(crate) const MAP: &str =
@@ -88,17 +88,17 @@ printed. SVG and CERT are two files; what they held before is lost. Finer grids 
 lines run straight, and line orders are searched for longer than by `make`.
 
 Example:
-  octimap map examples/vienna-ubahn map.svg map.cert
-  octimap map --page map.html examples/vienna-ubahn map.svg map.cert";
+  octimap map feed map.svg map.cert
+  octimap map --page map.html feed map.svg map.cert";
 
-pub(crate) const MAKE: &str = "Make the map of a feed by other settings than `map` has";
+pub(crate) const MAKE: &str = "Make the map of a feed with plainer settings than `map`";
 
 pub(crate) const AFTER_MAKE: &str = "\
 The map is SVG 1.1. The certificate is text that `octimap check` reads, and any checker of yours may. Nothing is
 printed. SVG and CERT are two files; what they held before is lost.
 
 Example:
-  octimap make examples/vienna-ubahn map.svg map.cert";
+  octimap make feed map.svg map.cert";
 
 pub(crate) const IMPROVE: &str = "Make the map of a feed, and its drawing straighter";
 
@@ -110,16 +110,17 @@ drawing weighed, what it weighs now, and how many moves were made. SVG and CERT 
 lost. `map` has lines run straight by itself, and makes no moves.
 
 Example:
-  octimap improve examples/vienna-ubahn map.svg map.cert 100";
+  octimap improve feed map.svg map.cert 100";
 
 pub(crate) const CHECK: &str = "Check a map and its certificate against a feed";
 
 pub(crate) const AFTER_CHECK: &str = "\
-It prints `best COST` where the map shows the feed's line graph in a legal drawing and no line orders cost less, or
-else the first thing that is wrong. Give it the settings that the map was made with.
+It prints `best COST` where the map shows the feed's line graph in a legal drawing and no line orders cost less (or
+`cost COST bound BOUND` under proof = \"bound\"), or else the first thing that is wrong. Give it the settings and edits
+that the map was made with.
 
 Example:
-  octimap check examples/vienna-ubahn map.svg map.cert";
+  octimap check feed map.svg map.cert";
 
 pub(crate) const LABELS: &str = "Write the map of a certificate with each name where it fits";
 
@@ -130,8 +131,8 @@ there is none. Nothing is printed. What OUT held before is lost. Give it the set
 with.
 
 Example:
-  octimap make examples/vienna-ubahn map.svg map.cert
-  octimap labels examples/vienna-ubahn map.cert labelled.svg";
+  octimap make feed map.svg map.cert
+  octimap labels feed map.cert labelled.svg";
 
 pub(crate) const GEO: &str = "Write the map of a certificate as its lines run on the ground";
 
@@ -141,19 +142,19 @@ the ways that the lines take on the ground, in decimetres, with north above. Not
 lost. Give it the settings and edits that the map was made with.
 
 Example:
-  octimap make examples/vienna-ubahn map.svg map.cert
-  octimap geo examples/vienna-ubahn map.cert ground.svg";
+  octimap make feed map.svg map.cert
+  octimap geo feed map.cert ground.svg";
 
 pub(crate) const POSTER: &str = "Write the map of a certificate as a poster, to print";
 
 pub(crate) const AFTER_POSTER: &str = "\
 The certificate is checked first, all of it but the map that was written with it. The poster has a white ground and a
-legend, marks stations at the lines that call there, and names them in one size, to which the grid gives way. Nothing is
-printed. What OUT held before is lost. Give it the settings and edits that the map was made with.
+legend, marks stations at the lines that call there, and names them where they fit, large or small. Nothing is printed.
+What OUT held before is lost. Give it the settings and edits that the map was made with.
 
 Example:
-  octimap make examples/vienna-ubahn map.svg map.cert
-  octimap poster examples/vienna-ubahn map.cert poster.svg";
+  octimap make feed map.svg map.cert
+  octimap poster feed map.cert poster.svg";
 
 pub(crate) const SESSION: &str = "Run a script of edits and draws";
 
@@ -163,7 +164,7 @@ behind a line `draw K SVGBYTES CERTBYTES`; where there is none, a line `draw K r
 line that is neither an edit nor a draw ends it.
 
 Example:
-  octimap session examples/vienna-ubahn examples/session.txt draws.txt";
+  octimap session feed my.script draws";
 
 pub(crate) const PAGE: &str = "Make a page of a map or of a poster, for a browser";
 
@@ -173,14 +174,14 @@ finds stations by name. Nothing is printed. SVG is a map or a poster that octima
 where each line calls. What HTML held before is lost.
 
 Example:
-  octimap make examples/vienna-ubahn map.svg map.cert
+  octimap make feed map.svg map.cert
   octimap page map.svg map.html";
 
 pub(crate) const TRIAL: &str = "Make the map of a built-in random feed, and print its numbers";
 
 pub(crate) const AFTER_TRIAL: &str = "\
-No file is read or written: it shows that the program works here, and how fast. The feed is a lattice with some
-lines, the same for the same N each time.
+No file is read or written: it shows that the program works here. The feed is a lattice with some lines, the same
+for the same N each time.
 
 Example:
   octimap trial 152";
@@ -188,7 +189,7 @@ Example:
 pub(crate) const FEED: &str = "The folder with the tables of an unpacked GTFS Schedule feed";
 
 pub(crate) const QUIET: &str =
-    "Leave out the lines on standard error that say more than the status";
+    "Write nothing to standard error";
 
 pub(crate) const NEW_SVG: &str = "The file that the map is written to";
 
@@ -200,7 +201,7 @@ pub(crate) const MOVES: &str = "How many moves there may be, from 0 to 10000";
 
 pub(crate) const SVG: &str = "The file of the map";
 
-pub(crate) const CERT: &str = "The file of its certificate";
+pub(crate) const CERT: &str = "The file of the map's certificate";
 
 pub(crate) const LABELLED: &str = "The file that the map with its names is written to";
 
@@ -223,7 +224,7 @@ pub(crate) const SET: &str =
     "A key of the settings in place of that of the file, as often as wanted, such as near=400";
 
 pub(crate) const EDITS: &str =
-    "A file of edits, one a line, such as examples/edits.txt; they are done to the tables and settings first";
+    "A file of edits, one a line, such as examples/edits.txt; they change what is read, not the feed";
 
 pub(crate) const SHOWN_SVG: &str = "The file of the map or poster that the page shows";
 

@@ -1,14 +1,23 @@
 -- What the path seems to be that should name the folder of a feed.
-use Rattle.std.specs.Prelude.{ℕ, ◌||◌, nat_eq, Bool, true, false, List, [], ◌∷◌, codes, if◌then◌else◌}
-use Rattle.std.specs.List.{starts_with}
+use Rattle.std.specs.Prelude.{ℕ, ◌||◌, nat_le, Bool, true, false, List, [], ◌∷◌, length, take, codes, if◌then◌else◌}
+use Rattle.std.specs.Str.{str_eq_ignore_ascii_case}
 use Rattle.message_texts.specs.declared.seeming.Found.{Found}
 use Rattle.message_texts.specs.declared.seeming.Found.TheVariants as found
 use Rattle.message_texts.specs.declared.seeming.Seeming.{Seeming}
 use Rattle.message_texts.specs.declared.seeming.Seeming.TheVariants as seems
 
+-- a text begins with these letters, be they small or capitals
+abbrev pub begins_so : List ℕ → List ℕ → Bool
+begins_so path letters =
+    if nat_le (length letters) (length path) then str_eq_ignore_ascii_case (take (length letters) path) letters else false
+
 -- an address of the web
+abbrev pub is_of_web : List ℕ → Bool
+is_of_web path = begins_so path (codes "http://") || begins_so path (codes "https://")
+
+-- an address of the web, of a server of files, or of a file
 abbrev pub is_address : List ℕ → Bool
-is_address path = starts_with nat_eq path (codes "http://") || starts_with nat_eq path (codes "https://")
+is_address path = is_of_web path || (begins_so path (codes "ftp://") || begins_so path (codes "file://"))
 
 -- where nothing lies: no path, an address, or the path of nothing
 abbrev pub of_nothing : List ℕ → Seeming

@@ -20,5 +20,5 @@ pub use meant_word::meant;
 pub use row_field::{column_of, due_in, id_column, is_column, required_column};
 pub use seeming::{Found, Seeming, path_seems};
 pub use setting_key::{SETTING_KEYS, SettingKey};
-pub use shown::{list_of, plain, quoted};
+pub use shown::{list_of, plain, plain_up_to, quoted};
 pub use trouble::{Trouble, trouble_of};

@@ -1,7 +1,8 @@
 //! What the path seems to be that should name the folder of a feed.
 
 ghost use Rattle.std.specs.Prelude.{◌≡◌, []};
-ghost use Rattle.message_texts.specs.Seems.{is_address, seeming_of};
+ghost use Rattle.std.specs.Str.{str_eq_ignore_ascii_case};
+ghost use Rattle.message_texts.specs.Seems.{begins_so, is_address, seeming_of};
 
 /// What lies at a path, as far as it was looked at.
 #[derive(Clone, Copy, Debug, PartialEq, Eq)]
@@ -26,7 +27,7 @@ pub enum Found {
 pub enum Seeming {
     /// No path: an empty text.
     Empty,
-    /// An address of the web.
+    /// An address, of the web or of another kind.
     Address,
     /// The path of nothing.
     Nothing,
@@ -89,10 +90,31 @@ fn seeming_of_folder(has_table: bool, has_inner: bool, has_packed: bool) -> Seem
     Seeming::Other
 }
 
-/// Whether a text begins as an address of the web does.
+/// Whether a text begins as an address does, in small letters or in capitals.
 fn is_address(path: &str) -> bool
     ensures { result ≡ is_address path.now }
 {
     let path = path.as_bytes();
-    path.starts_with(b"http://".as_slice()) || path.starts_with(b"https://".as_slice())
+    if begins_so(path, b"http://") || begins_so(path, b"https://") {
+        return true;
+    }
+    begins_so(path, b"ftp://") || begins_so(path, b"file://")
+}
+
+/// Whether a text begins with these letters, be they small or capitals.
+fn begins_so(path: &[u8], letters: &[u8]) -> bool
+    ensures { result ≡ begins_so path.now letters.now }
+{
+    if letters.len() <= path.len() {
+        is_same(path.split_at(letters.len()).0, letters)
+    } else {
+        false
+    }
+}
+
+/// Whether two texts have the same letters, be they small or capitals.
+fn is_same(one: &[u8], other: &[u8]) -> bool
+    ensures { result ≡ str_eq_ignore_ascii_case one.now other.now }
+{
+    one.eq_ignore_ascii_case(other)
 }

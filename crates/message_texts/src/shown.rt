@@ -12,13 +12,18 @@ pub fn quoted(alloc: Global, bytes: &[u8]) -> Result<String, NoMemory> {
     Ok(format!(in alloc; "\"{text}\"")?)
 }
 
-/// The first 80 characters of a text, with `<TAB>` for a TAB, and U+FFFD for each that would control a terminal and for
-/// bytes that are no UTF-8.
+/// The first 80 characters of a text, as `plain_up_to` shows them.
 pub fn plain(alloc: Global, bytes: &[u8]) -> Result<String, NoMemory> {
+    plain_up_to(alloc, bytes, SHOWN)
+}
+
+/// The first `most` characters of a text, with `<TAB>` for a TAB, and U+FFFD for bytes that are no UTF-8 and for each
+/// character that would control a terminal, that can't be seen, or that turns the direction of writing.
+pub fn plain_up_to(alloc: Global, bytes: &[u8], most: usize) -> Result<String, NoMemory> {
     let text = String::from_utf8_lossy(alloc, bytes)?;
     let mut shown = String::new(alloc);
     for (place, character) in text.as_str().chars().enumerate() {
-        if place == SHOWN {
+        if place == most {
             shown.push_str("..")?;
             break;
         }
@@ -30,12 +35,23 @@ pub fn plain(alloc: Global, bytes: &[u8]) -> Result<String, NoMemory> {
     Ok(shown)
 }
 
-/// The character, or U+FFFD in place of one that would control a terminal.
+/// The character, or U+FFFD in place of one that would control a terminal or is not seen.
 fn visible(character: char) -> char {
-    if character.is_control() {
+    if character.is_control() || is_unseen(character) {
         '\u{FFFD}'
     } else {
         character
+    }
+}
+
+/// Whether a character has no width, or only turns the direction of writing or ends a line.
+fn is_unseen(character: char) -> bool {
+    match character {
+        '\u{00AD}' | '\u{061C}' | '\u{FEFF}' => true,
+        '\u{200B}'..='\u{200F}' => true,
+        '\u{2028}'..='\u{202E}' => true,
+        '\u{2060}'..='\u{2069}' => true,
+        _ => false,
     }
 }
 

@@ -43,6 +43,9 @@ fn wrong_in<R: Files + AllocGlobal>(
     line: &[u8],
 ) -> Result<String, NoMemory> {
     let alloc = rt.alloc();
+    if str::from_utf8(line).is_err() {
+        return Ok(String::from_str(alloc, "the line is not UTF-8; save the file as UTF-8")?);
+    }
     match trouble_of(alloc, line)? {
         Trouble::Reads(edit) => not_due(rt, inputs.feed, &edit),
         Trouble::Empty => Ok(String::from_str(alloc, "a line is empty; take it out")?),
@@ -74,10 +77,30 @@ fn unknown(alloc: Global, line: &[u8], is_script: bool) -> Result<String, NoMemo
     if is_script && first == b"draw".as_slice() {
         return Ok(String::from_str(alloc, "draw takes nothing")?);
     }
+    if line.starts_with(b"\xEF\xBB\xBF".as_slice()) {
+        return Ok(String::from_str(
+            alloc,
+            "the line begins with a byte order mark; save the file as UTF-8 without one",
+        )?);
+    }
     let words = first_words(alloc, is_script)?;
     let near = question(alloc, first, words.as_slice())?;
     let list = list_of(alloc, words.as_slice(), TOLD)?;
-    Ok(format!(in alloc; "no edit begins so{near}; a line begins with {list}")?)
+    match no_word(line) {
+        Some(said) => Ok(format!(in alloc; "{said}; a line begins with its word: {list}")?),
+        None => Ok(format!(in alloc; "no edit begins so{near}; a line begins with {list}")?),
+    }
+}
+
+/// What is said of a line that begins with something else than a word.
+fn no_word(line: &[u8]) -> Option<&'static str> {
+    let first = line.first()?;
+    match *first {
+        b'#' => Some("there are no comments"),
+        b' ' => Some("a space stands in front"),
+        b'\t' => Some("a TAB stands in front"),
+        _ => None,
+    }
 }
 
 /// The words that a line may begin with.

@@ -3,11 +3,14 @@
 use crate::files::missing;
 use file_lookup::bytes_at;
 use map_base::NoMemory;
-use message_texts::{plain, quoted};
+use message_texts::{plain_up_to, quoted};
 use run_status::GraphWhy;
 use serde_json::Value;
 use std::alloc::Global;
 use std::rt::Files;
+
+/// How many characters of an entry are shown.
+const SHOWN: usize = 400;
 
 /// How a line of a graph file is written.
 const LINE: &str =
@@ -16,9 +19,9 @@ const LINE: &str =
 
 /// How a node is written.
 const NODE: &str =
-    "a node has the geometry \"Point\" with two whole numbers as coordinates, and the properties round, \
-    joins and, if it is a station, name; round names each segment that ends there once, joins are [e, f, line] with \
-    two segments of round that the line is on, e below f, and rise";
+    "a node has the geometry \"Point\" with two whole numbers from -300000000 to 300000000 as coordinates, and the \
+    properties round, joins and, if it is a station, name; round names each segment that ends there once, joins are \
+    [e, f, line] with two segments of round that the line is on, e below f, and rise";
 
 /// How a segment is written.
 const SEGMENT: &str =
@@ -84,7 +87,7 @@ fn in_entry(
         feature_form(entry)
     };
     let text = entry.to_string(alloc)?;
-    let text = plain(alloc, text.as_str().as_bytes())?;
+    let text = plain_up_to(alloc, text.as_str().as_bytes(), SHOWN)?;
     Ok(format!(in alloc;
         "octimap: {shown}, entry {index} of {array}, counted from 0: {text}: {form}\n"
     )?)

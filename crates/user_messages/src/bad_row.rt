@@ -3,7 +3,7 @@
 use crate::feed_path::missing_table;
 use crate::near_word::question;
 use file_lookup::{
-    FoundRow, bytes_at, earlier_row, ids_at, lacking_column, other_names, row_at, sought_in,
+    FoundRow, Sought, bytes_at, earlier_row, ids_at, lacking_column, other_names, row_at, sought_in,
 };
 use map_base::NoMemory;
 use message_texts::{column_of, due_in, id_column, list_of, quoted};
@@ -38,6 +38,9 @@ pub(crate) fn bad_row<R: Files + AllocGlobal + Clone + Drop>(
     let Some(bytes) = bytes_at(rt, path.as_str())? else {
         return Ok(String::new(alloc));
     };
+    if is_utf16(bytes.as_slice()) {
+        return Ok(format!(in alloc; "octimap: {name} is UTF-16; save it as UTF-8\n")?);
+    }
     let Some(found) = row_at(alloc, bytes.as_slice(), bad.row)? else {
         return Ok(format!(in alloc; "octimap: {name} is empty: it has no header\n")?);
     };
@@ -47,6 +50,11 @@ pub(crate) fn bad_row<R: Files + AllocGlobal + Clone + Drop>(
         }
         _ => in_table(alloc, bad, &found, bytes.as_slice()),
     }
+}
+
+/// Whether a file begins with the byte order mark of UTF-16.
+fn is_utf16(bytes: &[u8]) -> bool {
+    bytes.starts_with(b"\xFF\xFE".as_slice()) || bytes.starts_with(b"\xFE\xFF".as_slice())
 }
 
 /// The lines for a row that is bad by its own table.
@@ -59,10 +67,10 @@ fn in_table(
 ) -> Result<String, NoMemory> {
     match bad.why {
         Why::MissingColumn => lacks_column(alloc, bad.table, found),
-        Why::WrongFields => ends_early(alloc, bad, found),
+        Why::WrongFields => ends_early(alloc, bad, found, bytes),
         Why::NotUtf8 => not_utf8(alloc, bad, found),
         Why::RepeatedId | Why::RepeatedSequence => repeated(alloc, bad, found, bytes),
-        _ => bad_field(alloc, bad, found, "", ""),
+        _ => bad_field(alloc, bad, found, "", due_in(bad.table, bad.why)),
     }
 }
 
@@ -71,28 +79,68 @@ fn lacks_column(alloc: Global, table: Table, found: &FoundRow) -> Result<String,
     let name = file_name(table);
     let names = found.names(alloc)?;
     let list = list_of(alloc, names.as_slice(), TOLD)?;
+    let parted = wrongly_parted(found);
     match lacking_column(table, found) {
         Some(column) => {
             let other = other_names(alloc, table, names)?;
             let near = question(alloc, column.as_bytes(), other.as_slice())?;
             Ok(format!(in alloc;
-                "octimap: {name} has no column {column}; its columns are {list}{near}\n"
+                "octimap: {name} has no column {column}; its columns are {list}{near}{parted}\n"
             )?)
         }
         None => Ok(format!(in alloc; "octimap: {name} lacks a column; its columns are {list}\n")?),
     }
 }
 
+/// What is said of a header of one field that seems to be parted by something else than commas.
+fn wrongly_parted(found: &FoundRow) -> &'static str {
+    if found.header.len() != 1 {
+        return "";
+    }
+    for field in &found.header {
+        if field.contains(&b';') {
+            return "; fields are parted by commas, not by ;";
+        }
+        if field.contains(&b'\t') {
+            return "; fields are parted by commas, not by TABs";
+        }
+    }
+    ""
+}
+
 /// A row ends before a field that has to be there.
-fn ends_early(alloc: Global, bad: BadRow, found: &FoundRow) -> Result<String, NoMemory> {
+fn ends_early(
+    alloc: Global,
+    bad: BadRow,
+    found: &FoundRow,
+    bytes: &[u8],
+) -> Result<String, NoMemory> {
     let name = file_name(bad.table);
     let row = bad.row;
     let count = found.fields.len();
     let columns = found.header.len();
     let line = list_of_fields(alloc, found)?;
+    let quote = if ends_in_quote(found, bytes) {
+        "; a quote is not closed"
+    } else {
+        ""
+    };
     Ok(format!(in alloc;
-        "octimap: {name}, row {row}: it has {count} of {columns} fields: {line}\n"
+        "octimap: {name}, row {row}: it has {count} of {columns} fields: {line}{quote}\n"
     )?)
+}
+
+/// Whether a row ends inside a quote: it has lines in its last field, and the quotes of the file are odd in number.
+fn ends_in_quote(found: &FoundRow, bytes: &[u8]) -> bool {
+    match found.fields.last() {
+        Some(field) => field.contains(&b'\n') && count_of(bytes, b'"') % 2 == 1,
+        None => false,
+    }
+}
+
+/// How often a byte stands among others.
+fn count_of(bytes: &[u8], byte: u8) -> usize {
+    bytes.iter().filter(|other| **other == byte).count()
 }
 
 /// The fields of a row, each between quotes.
@@ -127,13 +175,13 @@ fn not_utf8(alloc: Global, bad: BadRow, found: &FoundRow) -> Result<String, NoMe
     Ok(String::new(alloc))
 }
 
-/// A field of a row is bad: its column, its value, what is said of that, what is due, and a question.
+/// A field of a row is bad: its column, its value, what is said of that, and what is due.
 fn bad_field(
     alloc: Global,
     bad: BadRow,
     found: &FoundRow,
     said: &str,
-    question: &str,
+    due: &str,
 ) -> Result<String, NoMemory> {
     let name = file_name(bad.table);
     let row = bad.row;
@@ -141,10 +189,22 @@ fn bad_field(
         return Ok(String::new(alloc));
     };
     let value = quoted(alloc, found.field(column))?;
-    let due = due_in(bad.table, bad.why);
     let whose = whose(alloc, bad.table, found, column)?;
+    let more = more_fields(alloc, found)?;
     Ok(format!(in alloc;
-        "octimap: {name}, row {row}{whose}: {column} is {value}{said}; {due}{question}\n"
+        "octimap: {name}, row {row}{whose}: {column} is {value}{said}; {due}{more}\n"
+    )?)
+}
+
+/// What is said of a row that has more fields than the header; empty where it hasn't.
+fn more_fields(alloc: Global, found: &FoundRow) -> Result<String, NoMemory> {
+    let count = found.fields.len();
+    let columns = found.header.len();
+    if count <= columns {
+        return Ok(String::new(alloc));
+    }
+    Ok(format!(in alloc;
+        "; the row has {count} fields and the header {columns}: is there a comma in a field without quotes?"
     )?)
 }
 
@@ -174,7 +234,7 @@ fn repeated(
         Some(number) => format!(in alloc; ", as in row {number}")?,
         None => String::new(alloc),
     };
-    bad_field(alloc, bad, found, said.as_str(), "")
+    bad_field(alloc, bad, found, said.as_str(), due_in(bad.table, bad.why))
 }
 
 /// A row names what another table, or another row, doesn't have.
@@ -189,13 +249,80 @@ fn unknown<R: Files + AllocGlobal>(
     let Some(column) = column_of(bad.table, bad.why) else {
         return Ok(String::new(alloc));
     };
-    let (other, id) = match bad.why {
-        Why::UnknownRoute => ("routes.txt", "route_id"),
-        Why::UnknownTrip => ("trips.txt", "trip_id"),
-        _ => ("stops.txt", "stop_id"),
+    let value = found.field(column);
+    let due = match bad.why {
+        Why::UnknownRoute => no_such(rt, feed, bad, "routes.txt", "route_id", value)?,
+        Why::UnknownTrip => no_such(rt, feed, bad, "trips.txt", "trip_id", value)?,
+        _ => match type_of_stop(rt, feed, value)? {
+            Some(kind) => other_kind(alloc, bad.why, kind.as_slice())?,
+            None => no_such(rt, feed, bad, "stops.txt", "stop_id", value)?,
+        },
     };
-    let path = format!(in alloc; "{feed}/{other}")?;
-    let ids = ids_at(rt, path.as_str(), id)?;
-    let near = question(alloc, found.field(column), ids.as_slice())?;
-    bad_field(alloc, bad, found, "", near.as_str())
+    bad_field(alloc, bad, found, "", due.as_str())
+}
+
+/// What is said of an id that no row of a table has, and which one may be meant.
+#[inline(never)]
+fn no_such<R: Files + AllocGlobal>(
+    rt: &R,
+    feed: &str,
+    bad: BadRow,
+    table: &str,
+    column: &str,
+    value: &[u8],
+) -> Result<String, NoMemory> {
+    let alloc = rt.alloc();
+    let path = format!(in alloc; "{feed}/{table}")?;
+    let ids = ids_at(rt, path.as_str(), column)?;
+    let near = question(alloc, value, ids.as_slice())?;
+    let due = due_in(bad.table, bad.why);
+    Ok(format!(in alloc; "{due}{near}")?)
+}
+
+/// What is said of an id that a row of stops.txt has whose type doesn't do.
+fn other_kind(alloc: Global, why: Why, kind: &[u8]) -> Result<String, NoMemory> {
+    let kind = quoted(alloc, kind)?;
+    let due = match why {
+        Why::UnknownParent => due_in(Table::Stops, why),
+        _ => "a trip calls at a stop or a station",
+    };
+    Ok(format!(in alloc; "the row of stops.txt with this stop_id has location_type {kind}; {due}")?)
+}
+
+/// The location type, as it is written, of the row of stops.txt with this id; none where there is no such row.
+#[inline(never)]
+fn type_of_stop<R: Files + AllocGlobal>(
+    rt: &R,
+    feed: &str,
+    id: &[u8],
+) -> Result<Option<Vec<u8>>, NoMemory> {
+    let alloc = rt.alloc();
+    let path = format!(in alloc; "{feed}/stops.txt")?;
+    match bytes_at(rt, path.as_str())? {
+        Some(bytes) => type_in(alloc, bytes.as_slice(), id),
+        None => Ok(None),
+    }
+}
+
+/// The same of the bytes of stops.txt.
+fn type_in(alloc: Global, bytes: &[u8], id: &[u8]) -> Result<Option<Vec<u8>>, NoMemory> {
+    let Some(header) = row_at(alloc, bytes, 1)? else {
+        return Ok(None);
+    };
+    let Some(id_column) = header.column("stop_id") else {
+        return Ok(None);
+    };
+    let sought = Sought {
+        id_column,
+        id,
+        number_column: None,
+        number: None,
+    };
+    let Some(row) = earlier_row(alloc, bytes, &sought, u64::MAX)? else {
+        return Ok(None);
+    };
+    match row_at(alloc, bytes, row)? {
+        Some(found) => Ok(Some(found.field("location_type").to_vec(alloc)?)),
+        None => Ok(None),
+    }
 }

@@ -93,7 +93,7 @@ fn bad_value(alloc: Global, text: &str, bytes: &[u8], key: SettingKey) -> Result
 }
 
 /// The value of a key as TOML writes it; empty where it has none.
-fn value_of(alloc: Global, bytes: &[u8], name: &str) -> Result<String, NoMemory> {
+pub(crate) fn value_of(alloc: Global, bytes: &[u8], name: &str) -> Result<String, NoMemory> {
     let Ok(text) = str::from_utf8(bytes) else {
         return Ok(String::new(alloc));
     };

@@ -2,7 +2,7 @@
 
 use file_lookup::{Folder, folder_at, found_file, inner_with};
 use map_base::{NoMemory, Text};
-use message_texts::{Found, Seeming, list_of, meant, path_seems, quoted};
+use message_texts::{Found, Seeming, list_of, meant, path_seems, plain, quoted};
 use std::alloc::Global;
 use std::rt::Files;
 
@@ -33,9 +33,12 @@ fn no_folder(alloc: Global, feed: &str, seems: Seeming) -> Result<String, NoMemo
         Seeming::Address => Ok(format!(in alloc;
             "octimap: {shown} is an address; download the feed, unpack it, and name the folder\n"
         )?),
-        Seeming::Packed => Ok(format!(in alloc;
-            "octimap: {shown} is a packed feed; unpack it, as by: unzip -d feed {shown}, and name the folder\n"
-        )?),
+        Seeming::Packed => {
+            let how = how_to_unpack(alloc, feed)?;
+            Ok(format!(in alloc;
+                "octimap: {shown} is a packed feed; unpack it{how}, and name the folder\n"
+            )?)
+        }
         Seeming::File => Ok(format!(in alloc;
             "octimap: {shown} is a file; name the folder of an unpacked feed\n"
         )?),
@@ -43,6 +46,17 @@ fn no_folder(alloc: Global, feed: &str, seems: Seeming) -> Result<String, NoMemo
             "octimap: there is no folder {shown}; name the folder of an unpacked feed\n"
         )?),
     }
+}
+
+/// How the archive at a path is unpacked by a shell; empty where the path can't stand there whole and as it is.
+fn how_to_unpack(alloc: Global, path: &str) -> Result<String, NoMemory> {
+    let bytes = path.as_bytes();
+    let shown = plain(alloc, bytes)?;
+    let is_quotable = !bytes.contains(&b'\'') && !bytes.starts_with(b"-".as_slice());
+    if is_quotable && shown.as_str() == path {
+        return Ok(format!(in alloc; ", as by: unzip -d feed '{path}'")?);
+    }
+    Ok(String::new(alloc))
 }
 
 /// What a folder seems to be in which a table is missing.

@@ -15,6 +15,7 @@ mod messages;
 mod near_word;
 mod no_route;
 mod refuted;
+mod set_keys;
 mod station_words;
 
 pub use messages::message;

@@ -43,7 +43,7 @@ fn of_command<R: Files + AllocGlobal + Clone + Drop>(
     let inputs = inputs_of(command);
     match status {
         Status::Done => blank_map(rt, command, &inputs),
-        Status::WriteFault => unwritten(rt.alloc(), fault),
+        Status::WriteFault => unwritten(rt.alloc(), command, fault),
         Status::BadEdit { line } => bad_edit(rt, &inputs, *line),
         Status::NoRoute { seg } => no_route(rt, command, &inputs, *seg),
         Status::Spent { .. } | Status::Limit(_) | Status::NoMemory => {
@@ -91,7 +91,7 @@ fn of_size(alloc: Global, of_graph: bool, status: &Status) -> Result<String, NoM
 }
 
 /// Whether the command makes a map of a file with a line graph.
-fn is_import(command: &Command<'_>) -> bool {
+pub(crate) fn is_import(command: &Command<'_>) -> bool {
     match command {
         Command::Import { .. } => true,
         _ => false,

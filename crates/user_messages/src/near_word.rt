@@ -5,8 +5,12 @@ use message_texts::{meant, quoted};
 use std::alloc::Global;
 use table_rows::bare;
 
-/// The id that may be meant by a word that is none, as a question behind a message; empty where none is near.
+/// The id that may be meant by a word that is none, as a question behind a message; empty where none is near, or the
+/// word is an id.
 pub(crate) fn question(alloc: Global, word: &[u8], ids: &[Text]) -> Result<String, NoMemory> {
+    if ids.iter().any(|id| id.as_str().as_bytes() == word) {
+        return Ok(String::new(alloc));
+    }
     let Ok(word) = str::from_utf8(bare(word)) else {
         return Ok(String::new(alloc));
     };

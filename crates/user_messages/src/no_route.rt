@@ -1,13 +1,19 @@
 //! No grid gives each segment a way.
 
+use crate::messages::is_import;
+use crate::set_keys::{is_set, set_value};
 use crate::station_words::{far_line, node_name};
 use command_inputs::Inputs;
+use command_paths::Options;
 use command_words::Command;
 use file_lookup::{Network, network_of};
-use map_base::{NoMemory, NodeId, SegId};
+use map_base::{NoMemory, SegId};
 use map_method::Defaults;
 use std::alloc::Global;
 use std::rt::Files;
+
+/// How many directions the grid has.
+const DIRECTIONS: usize = 8;
 
 /// The lines for the first segment without a way: between which stations it lies, and what may do.
 pub(crate) fn no_route<R: Files + AllocGlobal>(
@@ -18,13 +24,16 @@ pub(crate) fn no_route<R: Files + AllocGlobal>(
 ) -> Result<String, NoMemory> {
     let alloc = rt.alloc();
     let mut text = String::new(alloc);
+    let mut most = 0;
     if let Some(network) = network_of(rt, command, inputs)? {
         let line = between(alloc, &network, seg)?;
         text.push_str(line.as_str())?;
         let line = far_line(alloc, &network)?;
         text.push_str(line.as_str())?;
+        most = meeting(&network, seg);
     }
-    text.push_str(hint(command, inputs.options.defaults))?;
+    let hint = hint(rt, command, &inputs.options, most)?;
+    text.push_str(hint.as_str())?;
     Ok(text)
 }
 
@@ -36,16 +45,24 @@ fn between(alloc: Global, network: &Network, seg: SegId) -> Result<String, NoMem
     let (low, up) = network.graph.ends(seg);
     let one = node_name(alloc, network, low)?;
     let other = node_name(alloc, network, up)?;
-    let crowd = crowd(alloc, network, low, up)?;
+    let crowd = crowd(alloc, meeting(network, seg))?;
     Ok(format!(in alloc;
         "octimap: on no grid that was tried is there a free way from {one} to {other}{crowd}\n"
     )?)
 }
 
-/// What is said where more than eight segments meet at an end.
-fn crowd(alloc: Global, network: &Network, low: NodeId, up: NodeId) -> Result<String, NoMemory> {
-    let most = network.meeting(low).max(network.meeting(up));
-    if most > 8 {
+/// How many segments meet at an end of a segment, at that where more do.
+fn meeting(network: &Network, seg: SegId) -> usize {
+    if seg.0 >= network.graph.segs() {
+        return 0;
+    }
+    let (low, up) = network.graph.ends(seg);
+    network.meeting(low).max(network.meeting(up))
+}
+
+/// What is said where more segments meet at an end than have room.
+fn crowd(alloc: Global, most: usize) -> Result<String, NoMemory> {
+    if most > DIRECTIONS {
         return Ok(format!(in alloc;
             "; {most} segments meet at one of them, and the grid has eight directions"
         )?);
@@ -53,27 +70,104 @@ fn crowd(alloc: Global, network: &Network, low: NodeId, up: NodeId) -> Result<St
     Ok(String::new(alloc))
 }
 
-/// What may do.
-fn hint(command: &Command<'_>, defaults: Defaults) -> &'static str {
-    match command {
-        Command::Import { .. } => {
-            "octimap: finer grids and room for a dense centre may do, as by --set finest=16 and \
-             --set 'spread=\"auto\"'; or place stations farther apart\n"
-        }
-        _ => hint_of(defaults),
+/// What may do, where so many segments meet at an end.
+fn hint<R: Files + AllocGlobal>(
+    rt: &R,
+    command: &Command<'_>,
+    options: &Options<'_>,
+    most: usize,
+) -> Result<String, NoMemory> {
+    let alloc = rt.alloc();
+    let is_import = is_import(command);
+    if most > DIRECTIONS {
+        return Ok(String::from_str(alloc, fewer_there(is_import))?);
+    }
+    let mut text = String::new(alloc);
+    text.push_str(smaller_cell(rt, options)?)?;
+    let line = if is_import {
+        in_graph(rt, options)?
+    } else {
+        in_feed(rt, options)?
+    };
+    text.push_str(line.as_str())?;
+    Ok(text)
+}
+
+/// What may do where more segments meet than have room, on each grid.
+fn fewer_there(is_import: bool) -> &'static str {
+    if is_import {
+        "octimap: leave out lines there\n"
+    } else {
+        "octimap: hide lines there (edits with hide), or try another near\n"
     }
 }
 
+/// What is said of the side of a grid cell that the user set; empty where none is set.
+fn smaller_cell<R: Files + AllocGlobal>(
+    rt: &R,
+    options: &Options<'_>,
+) -> Result<&'static str, NoMemory> {
+    let cell = set_value(rt, options, "cell")?;
+    if cell.is_empty() || cell.as_str() == "0" {
+        return Ok("");
+    }
+    Ok("octimap: a smaller cell, or 0, has more room\n")
+}
+
+/// The keys that give more room and are not set, as words of a command line.
+fn room_words<R: Files + AllocGlobal>(
+    rt: &R,
+    options: &Options<'_>,
+) -> Result<&'static str, NoMemory> {
+    let finest = is_set(rt, options, "finest")?;
+    let spread = is_set(rt, options, "spread")?;
+    if finest && spread {
+        return Ok("");
+    }
+    if finest {
+        return Ok("--set 'spread=\"auto\"'");
+    }
+    if spread {
+        return Ok("--set finest=16");
+    }
+    Ok("--set finest=16 and --set 'spread=\"auto\"'")
+}
+
+/// What may do for the map of a graph file.
+fn in_graph<R: Files + AllocGlobal>(rt: &R, options: &Options<'_>) -> Result<String, NoMemory> {
+    let alloc = rt.alloc();
+    let words = room_words(rt, options)?;
+    if words.is_empty() {
+        return Ok(String::from_str(
+            alloc,
+            "octimap: place stations farther apart, or leave out lines\n",
+        )?);
+    }
+    Ok(format!(in alloc;
+        "octimap: finer grids and room for a dense centre may do, as by {words}; or place stations farther apart\n"
+    )?)
+}
+
 /// What may do for the map of a feed.
-fn hint_of(defaults: Defaults) -> &'static str {
-    match defaults {
-        Defaults::Make => {
-            "octimap: `octimap map` tries finer grids and gives a dense centre room, as do --set finest=16 and \
-             --set 'spread=\"auto\"'\n"
-        }
-        Defaults::Map => {
-            "octimap: a larger near joins ways that lie side by side, as --set near=1000; fewer lines have more room \
-             (the key types, or edits with hide)\n"
+fn in_feed<R: Files + AllocGlobal>(rt: &R, options: &Options<'_>) -> Result<String, NoMemory> {
+    let alloc = rt.alloc();
+    if options.defaults == Defaults::Make {
+        let words = room_words(rt, options)?;
+        if !words.is_empty() {
+            return Ok(format!(in alloc;
+                "octimap: `octimap map` tries finer grids and gives a dense centre room; here {words} may do\n"
+            )?);
         }
     }
+    let near = if is_set(rt, options, "near")? {
+        ""
+    } else {
+        "a larger near joins ways that lie side by side, as --set near=1000; "
+    };
+    let types = if is_set(rt, options, "types")? {
+        ""
+    } else {
+        "the key types, or "
+    };
+    Ok(format!(in alloc; "octimap: {near}fewer lines have more room ({types}edits with hide)\n")?)
 }

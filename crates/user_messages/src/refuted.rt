@@ -51,8 +51,8 @@ fn sentence_of_check(item: &CheckItem) -> &'static str {
         }
         CheckItem::Proof(found) => sentence_of_proof(found),
         CheckItem::Picture { .. } => {
-            "from this byte on the map is not the picture of its certificate; was it changed, or have names or colours \
-             in the feed?"
+            "from this byte on the map is not the picture of its certificate; was the file changed, is it a poster, \
+             have names or colours in the feed changed, or were other settings or edits given?"
         }
     }
 }
