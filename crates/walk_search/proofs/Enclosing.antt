@@ -83,14 +83,6 @@ inside_more q points p all one i below = of_case (cases_eq i (length points))
         let inside : i < length points = omega (arith, long) in
         ap (is_inside q.board) (get_or_append_left points (p ∷ []) q.from.at i inside) ∙ all i inside
 
--- the last point of a longer list is among it
-pub among_last : (points : List GridPoint) (p : GridPoint) → is_among (points ++ p ∷ []) p ≡ true
-among_last points p = stands_among p (points ++ p ∷ []) (last points)
-  where
-    last : (xs : List GridPoint) → StandsIn p (xs ++ p ∷ [])
-    last [] = inl refl
-    last (x ∷ xs) = inr (last xs)
-
 -- what was followed stays followed
 pub steps_longer : (q : Question) (old new : List GridPoint) (p : GridPoint) (count : ℕ) → IsLonger old new → HasSteps q old p count → HasSteps q new p count
 steps_longer q old new p count longer has n below leads = among_longer old new longer (step_from p (direction n)) (has n below leads)

@@ -1,12 +1,12 @@
 -- Spots and their numbers.
-use Rattle.std.proofs.Common.{◌≡◌, ◌≢◌, refl, sym, ◌∙◌, ap, ap₂, subst, ℕ, ◌+◌, ◌*◌, ◌/◌, ◌%◌, ◌<◌, ◌≤◌, ◌⊎◌, inl, inr, Bool, true, false, cond, eqb, Option, Some, None, arith}
+use Rattle.std.proofs.Common.{◌≡◌, ◌≢◌, refl, sym, ◌∙◌, ap, ap₂, subst, ℕ, ◌+◌, ◌*◌, ◌/◌, ◌%◌, ◌<◌, ◌⊎◌, inl, inr, Bool, true, false, cond, eqb, Option, Some, None, arith}
 use Rattle.std.specs.Prelude.{IfSome}
 use Rattle.std.proofs.lemmas.Bool.{ne_eqb, eq-eqb, eqb-true, cases_eq}
 use Rattle.octi_grid.specs.declared.point.GridPoint.{GridPoint}
 use Rattle.grid_board.specs.declared.bounds.Bounds.{Bounds}
 use Rattle.walk_search.specs.declared.spots.Spot.{Spot}
-use Rattle.grid_board.specs.Boards.{AreBounds, cells_of, cell_of, contains, point_of}
-use Rattle.walk_search.specs.Spots.{IsSpot, number_of_place, number_of_spot, spots_of, spot_of}
+use Rattle.grid_board.specs.Boards.{AreBounds, cells_of, cell_of, point_of}
+use Rattle.walk_search.specs.Spots.{IsSpot, number_of_spot, spots_of, spot_of}
 use Rattle.grid_board.proofs.Within.{inside_facts, inside_test, point_below, point_inside, point_of-cell, cell_of-point, frame_of}
 
 parts : (cell a g : ℕ) → a < 9 → g < 10 → ((((cell * 10 + g) * 9 + a) / 90) ≡ cell) × ((((cell * 10 + g) * 9 + a) % 9) ≡ a) × (((((cell * 10 + g) * 9 + a) / 9) % 10) ≡ g)
@@ -17,14 +17,6 @@ below_all cell cells a g h k l = omega arith
 
 pub number_below_spots : (b : Bounds) (s : Spot) → IsSpot b s → number_of_spot b s < spots_of b
 number_below_spots b s h = below_all (cell_of b s.at) (cells_of b) s.arrival s.group (point_below b s.at (inside_facts b s.at h.inside)) h.arrival h.group
-
-pub place_below_spots : (b : Bounds) (p : GridPoint) (group : ℕ) → contains b p ≡ true → group < 10 → number_of_place b p group * 9 + 9 ≤ spots_of b
-place_below_spots b p group inside small =
-    let below : cell_of b p < cells_of b = point_below b p (inside_facts b p inside) in
-    all_below (cell_of b p) (cells_of b) below
-  where
-    all_below : (cell cells : ℕ) → cell < cells → (cell * 10 + group) * 9 + 9 ≤ 90 * cells
-    all_below cell cells less = omega arith
 
 pub spot_of-number : (b : Bounds) (s : Spot) → IsSpot b s → spot_of b (number_of_spot b s) ≡ Some s
 spot_of-number b s h =
