@@ -1,7 +1,7 @@
 -- Spots and their numbers.
-use Rattle.std.proofs.Common.{◌≡◌, ◌≢◌, refl, sym, ◌∙◌, ap, ap₂, subst, ℕ, ◌+◌, ◌*◌, ◌/◌, ◌%◌, ◌<◌, ◌⊎◌, inl, inr, Bool, true, false, cond, eqb, Option, Some, None, arith}
+use Rattle.std.proofs.Common.{◌≡◌, ◌≢◌, refl, sym, ◌∙◌, ap, ap₂, subst, ℕ, ◌+◌, ◌*◌, ◌/◌, ◌%◌, ◌<◌, ◌⊎◌, inl, inr, cond, eqb, Option, Some, None, arith}
 use Rattle.std.specs.Prelude.{IfSome}
-use Rattle.std.proofs.lemmas.Bool.{ne_eqb, eq-eqb, eqb-true, cases_eq}
+use Rattle.std.proofs.lemmas.Bool.{ne_eqb, eq-eqb, eqb-true, cases_eq, cases_Bool}
 use Rattle.octi_grid.specs.declared.point.GridPoint.{GridPoint}
 use Rattle.grid_board.specs.declared.bounds.Bounds.{Bounds}
 use Rattle.walk_search.specs.declared.spots.Spot.{Spot}
@@ -37,7 +37,7 @@ spot_of-number b s h =
         ap₂ (λ (p : GridPoint) (a : ℕ). record { at = p; arrival = a; group = n / 9 % 10 }) (ap (point_of b) ps.0 ∙ point_of-cell b s.at (inside_facts b s.at h.inside)) ps.1
         ∙ ap (λ (g : ℕ). record { at = s.at; arrival = s.arrival; group = g }) ps.2
 
-some_same : {X : Type 0} (x y : X) → Some x ≡ Some y → x ≡ y
+pub some_same : {X : Type 0} (x y : X) → Some x ≡ Some y → x ≡ y
 some_same x y e = cc
 
 -- the spot of a number
@@ -72,14 +72,13 @@ spot_of-none b =
     ap (λ t. cond t None (Some (let s : Spot = record { at = point_of b (spots_of b / 90); arrival = spots_of b % 9; group = spots_of b / 9 % 10 } in s))) (eq-eqb (spots_of b) (spots_of b) refl)
 
 pub none_is_last : (b : Bounds) (n : ℕ) → spot_of b n ≡ None → n ≡ spots_of b
-none_is_last b n e = of_test (eqb n (spots_of b)) refl
+none_is_last b n e = elim (cases_Bool (eqb n (spots_of b))) [
+  | inl h ↦ eqb-true n (spots_of b) h
+  | inr h ↦ (let clash : Some spot_at ≡ None = sym (ap (λ t. cond t None (Some spot_at)) h) ∙ e in absurd (let no : ⊥ = cc in no))
+]
   where
     spot_at : Spot
     spot_at = record { at = point_of b (n / 90); arrival = n % 9; group = n / 9 % 10 }
-
-    of_test : (t : Bool) → eqb n (spots_of b) ≡ t → n ≡ spots_of b
-    of_test true h = eqb-true n (spots_of b) h
-    of_test false h = let clash : Some spot_at ≡ None = sym (ap (λ t. cond t None (Some spot_at)) h) ∙ e in absurd (let no : ⊥ = cc in no)
 
 -- the spot of a number stands on the board
 pub spots_on_board : (b : Bounds) (n : ℕ) → AreBounds b → n < spots_of b + 1 → (o : Option Spot) → o ≡ spot_of b n → IfSome o (IsSpot b)
