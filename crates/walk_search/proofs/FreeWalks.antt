@@ -1,16 +1,15 @@
 -- Free walks are the walks of paths, and the other way round.
 use Rattle.std.proofs.Common.{◌≡◌, ◌≢◌, refl, sym, ◌∙◌, ap, ap₂, subst, ℕ, ◌+◌, ◌-◌, ◌<◌, ◌⊎◌, inl, inr, Bool, true, false, cond, eqb, leb, not, ◌&&◌, ◌||◌, List, [], ◌∷◌, map, filter, length, Some, ℤ, pos, negsuc, ◌+ℤ◌, arith}
 use Rattle.std.specs.Prelude.{option_map}
-use Rattle.std.specs.List.{list_all, list_any}
+use Rattle.std.specs.List.{list_any}
 use Rattle.std.proofs.lemmas.Int.{ints}
 use Rattle.std.proofs.lemmas.Bool.{and_parts, and_from, ne_eqb, not-true, not_from_false, or_left, or_right, or_cases, cases_Bool, le-leb, true≢false, false≢true, false_from_ne_true}
 use Rattle.least_path.proofs.Chosen.{all-at}
 use Rattle.octi_grid.specs.declared.dir.Dir.{Dir}
-use Rattle.octi_grid.specs.declared.dir.Dir.TheVariants as dir
 use Rattle.octi_grid.specs.declared.point.GridPoint.{GridPoint}
 use Rattle.octi_grid.specs.Ways.{after, are_one, doubled, east_of, north_of, number_of, reverse_of, step_from}
 use Rattle.octi_grid.specs.Costs.{way_cost}
-use Rattle.octi_grid.specs.Walks.{PlainWalk, doubled_of, end_point, end_port, last_of, points_of, start_port}
+use Rattle.octi_grid.specs.Walks.{PlainWalk, end_point, end_port, last_of, start_port}
 use Rattle.octi_grid.specs.Legal.{is_among}
 use Rattle.state_search.specs.Goals.{PathTo}
 use Rattle.walk_search.specs.declared.ends.End.{End}
@@ -143,12 +142,12 @@ pub record IsFreeWalk (q : Question) (w : PlainWalk) (d : Dir) (ds : List Dir) :
 
 pub free_of_parts : (q : Question) (start : GridPoint) (d : Dir) (ds : List Dir) → IsFreeWalk q (record { start = start; steps = d ∷ ds }) d ds → is_free q.board q.from q.to (record { start = start; steps = d ∷ ds }) ≡ true
 free_of_parts q start d ds f =
-    and_from (a && b && c && i && n && t && s) e
-    (and_from (a && b && c && i && n && t) s
-    (and_from (a && b && c && i && n) t
-    (and_from (a && b && c && i) n
-    (and_from (a && b && c) i
-    (and_from (a && b) c (and_from a b f.starts f.ends) (not_from_false (are_one start (end_point w)) f.apart))
+    and_from _ _
+    (and_from _ _
+    (and_from _ _
+    (and_from _ _
+    (and_from _ _
+    (and_from _ _ (and_from _ _ f.starts f.ends) (not_from_false (are_one start (end_point w)) f.apart))
     (along_inside q.board start d ds f.along))
     (not_from_false (list_any q.board.is_node (inner_points w)) (ap (list_any q.board.is_node) (inner_is w d ds refl) ∙ along_inner q.board start d ds f.along)))
     (along_clear q.board (clear_of q.board q.from q.to w) start d ds (clear_where q.board q.from q.to w) (clear_start q.board q.from q.to w f.starts) (clear_end q.board q.from q.to w f.ends) f.along))
@@ -157,30 +156,6 @@ free_of_parts q start d ds f =
   where
     w : PlainWalk
     w = record { start = start; steps = d ∷ ds }
-
-    a : Bool
-    a = is_among (starts_of q) start
-
-    b : Bool
-    b = is_among (ends_of q) (end_point w)
-
-    c : Bool
-    c = not (are_one start (end_point w))
-
-    i : Bool
-    i = list_all (is_inside q.board) (points_of w)
-
-    n : Bool
-    n = not (list_any q.board.is_node (inner_points w))
-
-    t : Bool
-    t = list_all (clear_of q.board q.from q.to w) (doubled_of w)
-
-    s : Bool
-    s = allows q.from.ports (start_port w)
-
-    e : Bool
-    e = allows q.to.ports (end_port w)
 
 pub parts_of_free : (q : Question) → IsQuestion q → (start : GridPoint) (d : Dir) (ds : List Dir) → is_free q.board q.from q.to (record { start = start; steps = d ∷ ds }) ≡ true →
     IsFreeWalk q (record { start = start; steps = d ∷ ds }) d ds
