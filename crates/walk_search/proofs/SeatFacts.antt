@@ -108,6 +108,9 @@ seats_few board end =
     (λ e. subst (λ n. n ≤ 9) (sym (length-filter (is_free_seat board end.at) (map (shifted end.at) shifts)))
     (count_by-le-length (is_free_seat board end.at) (map (shifted end.at) shifts))) (λ e. omega arith)
 
+pub kept_few : (board : BoardParts) (end : End) (seats : List GridPoint) → seats ≡ seats_of board end → length seats ≤ 9
+kept_few board end seats are = subst (λ (ps : List GridPoint). length ps ≤ 9) (sym are) (seats_few board end)
+
 -- each seat is even, as the nodes of a board are
 even_shift : (home : GridPoint) (a b : ℤ) → is_even home ≡ true → unsigned_abs a % 2 ≡ 0 → unsigned_abs b % 2 ≡ 0 → is_even (shifted home (a, b)) ≡ true
 even_shift home a b e f g =
