@@ -241,11 +241,10 @@ module _ (graph : GraphParts) (fit : IsConsistent graph) (corners : List Bool) (
   both_beside (x ∷ xs) ys a b off = (beside_from x (xs ++ ys) each, both_beside xs ys a.1 b (λ c d i j. off c d (inr i) j))
     where
       each : (d : Chain) → In d (xs ++ ys) → (q p : ChainStep) → In q x.steps → In p d.steps → q.seg ≡ p.seg → ⊥
-      each d i q p on_x on_d same = by_place (in_append d xs ys i)
-        where
-          by_place : In d xs ⊎ In d ys → ⊥
-          by_place (inl j) = beside_off x xs a d j q p on_x on_d (ap (λ (s : SegId). s.0) (sym same))
-          by_place (inr j) = off x d (inl refl) j q p on_x on_d same
+      each d i q p on_x on_d same = elim (in_append d xs ys i) [
+        | inl j ↦ beside_off x xs a d j q p on_x on_d (ap (λ (s : SegId). s.0) (sym same))
+        | inr j ↦ off x d (inl refl) j q p on_x on_d same
+      ]
 
   by_beside : (n : NodeId) → n.0 < length graph.kinds → is_corner corners n ≡ true → (ss : List SegId) → AreSegsOnce ss → ((s : SegId) → In s ss → In s (round_of graph n)) → AreBeside (chains_by graph corners n ss)
   by_beside n node corner [] once all = tt

@@ -41,11 +41,10 @@ from_corner (p ∷ ns) corners n e = by_rest (from_corner ns (set corners p.0 tr
   where
     by_rest : (get_or (set corners p.0 true) n false ≡ true) ⊎ ((m : NodeId) × In m ns × (m.0 ≡ n)) → (get_or corners n false ≡ true) ⊎ ((m : NodeId) × In m (p ∷ ns) × (m.0 ≡ n))
     by_rest (inr (m, i, same)) = inr (m, inr i, same)
-    by_rest (inl f) = by_number (cases_eq n p.0)
-      where
-        by_number : (n ≡ p.0) ⊎ (n ≡ p.0 → ⊥) → (get_or corners n false ≡ true) ⊎ ((m : NodeId) × In m (p ∷ ns) × (m.0 ≡ n))
-        by_number (inl same) = inr (p, inl refl, sym same)
-        by_number (inr other) = inl (sym (get_or-set_other corners p.0 n true false other) ∙ f)
+    by_rest (inl f) = elim (cases_eq n p.0) [
+      | inl same ↦ inr (p, inl refl, sym same)
+      | inr other ↦ inl (sym (get_or-set_other corners p.0 n true false other) ∙ f)
+    ]
 
 many_corners : (ns : List NodeId) (corners : List Bool) → length (fold with_corner corners ns) ≡ length corners
 many_corners [] corners = refl
@@ -146,17 +145,14 @@ bend_at (suc most) graph cell nodes m i = by_test (is_bent graph cell nodes) ref
       where
         long : 2 < length nodes
         long = ltb-true 2 (length nodes) (and_parts (nat_lt 2 (length nodes)) ((eqb (node_at nodes 0).0 (node_at nodes (last_place nodes)).0) || nat_lt (far_off graph cell nodes) (greatest (offs_of graph nodes))) e).0
-    by_test true e (inr j) in_front in_rear = by_part (in_append m (bends_of most graph cell front) (bends_of most graph cell rear) j)
-      where
-        by_part : In m (bends_of most graph cell front) ⊎ In m (bends_of most graph cell rear) → IsBendAt nodes m
-        by_part (inl x) =
-            let at = in_front x in
-            let many = length-take (k + 1) nodes in
-            record { place = at.place; after = at.after; before = omega (arith, at.before, many); there = sym (get_or-take (k + 1) nodes at.place (record { 0 = 0 }) (omega (arith, at.before, many))) ∙ at.there }
-        by_part (inr x) =
-            let at = in_rear x in
-            let many = length-drop k nodes in
-            record { place = k + at.place; after = omega (arith, at.after); before = omega (arith, at.before, many); there = sym (get_or-drop k nodes at.place (record { 0 = 0 })) ∙ at.there }
+    by_test true e (inr j) in_front in_rear = elim (in_append m (bends_of most graph cell front) (bends_of most graph cell rear) j) [
+      | inl x ↦ (let at = in_front x in
+          let many = length-take (k + 1) nodes in
+          record { place = at.place; after = at.after; before = omega (arith, at.before, many); there = sym (get_or-take (k + 1) nodes at.place (record { 0 = 0 }) (omega (arith, at.before, many))) ∙ at.there })
+      | inr x ↦ (let at = in_rear x in
+          let many = length-drop k nodes in
+          record { place = k + at.place; after = omega (arith, at.after); before = omega (arith, at.before, many); there = sym (get_or-drop k nodes at.place (record { 0 = 0 })) ∙ at.there })
+    ]
 
 -- and among the nodes of a chain
 inner_place : (ts : List ChainStep) (i : ℕ) → i + 1 < length ts → In (node_at (map (λ (t : ChainStep). t.to) ts) i) (inner_nodes ts)

@@ -303,7 +303,12 @@ module _ (graph : GraphParts) (fit : IsConsistent graph) (runs : List Chain) (ru
       subst (IsFitting graph) (sym by_dir.2) (served_fitting nodes by_dir.0 (2 * (length_of.0 + 1)) served (omega arith))
 
   pub over_fitting : (nodes : List NodeId) → ((n : NodeId) → In n nodes → IsServed graph runs n) → ((c : Chain) → In c runs → IsServed graph runs c.from × IsServed graph runs (end_of c)) → (a : Attempt) → In a (moves_over runs nodes) → IsFitting graph a
-  over_fitting nodes served ends a i = by_part (in_append a (flat_map (λ n. moves_of runs (n ∷ [])) nodes) (flat_map (λ (c : Chain). moves_of runs (c.from ∷ end_of c ∷ [])) runs) i)
+  over_fitting nodes served ends a i = elim (in_append a (flat_map (λ n. moves_of runs (n ∷ [])) nodes) (flat_map (λ (c : Chain). moves_of runs (c.from ∷ end_of c ∷ [])) runs) i) [
+    | inl j ↦ (let at = from_flat_map (λ n. moves_of runs (n ∷ [])) nodes a j in moves_fitting (at.0 ∷ []) (one at.0 (served at.0 at.1)) a at.2)
+    | inr j ↦ (let at = from_flat_map (λ (c : Chain). moves_of runs (c.from ∷ end_of c ∷ [])) runs a j in
+        let two = ends at.0 at.1 in
+        moves_fitting (at.0.from ∷ end_of at.0 ∷ []) (both at.0.from (end_of at.0) two.0 two.1) a at.2)
+  ]
     where
       one : (n : NodeId) → IsServed graph runs n → (m : NodeId) → In m (n ∷ []) → IsServed graph runs m
       one n s m (inl e) = subst (IsServed graph runs) (sym e) s
@@ -313,13 +318,6 @@ module _ (graph : GraphParts) (fit : IsConsistent graph) (runs : List Chain) (ru
       both n k s t m (inl e) = subst (IsServed graph runs) (sym e) s
       both n k s t m (inr (inl e)) = subst (IsServed graph runs) (sym e) t
       both n k s t m (inr (inr none)) = absurd none
-
-      by_part : In a (flat_map (λ n. moves_of runs (n ∷ [])) nodes) ⊎ In a (flat_map (λ (c : Chain). moves_of runs (c.from ∷ end_of c ∷ [])) runs) → IsFitting graph a
-      by_part (inl j) = let at = from_flat_map (λ n. moves_of runs (n ∷ [])) nodes a j in moves_fitting (at.0 ∷ []) (one at.0 (served at.0 at.1)) a at.2
-      by_part (inr j) =
-          let at = from_flat_map (λ (c : Chain). moves_of runs (c.from ∷ end_of c ∷ [])) runs a j in
-          let two = ends at.0 at.1 in
-          moves_fitting (at.0.from ∷ end_of at.0 ∷ []) (both at.0.from (end_of at.0) two.0 two.1) a at.2
 
 -- ---- all attempts of a pass
 
@@ -396,7 +394,10 @@ module _ (graph : GraphParts) (fit : IsConsistent graph) (cell : ℕ) where
       (node_served graph fit (ends_of graph at.0).0 (omega (arith, are.0, are.1)), node_served graph fit (ends_of graph at.0).1 (omega (arith, are.1)))
 
   pub straight_fitting : (a : Attempt) → In a (straight_attempts graph (corners_of graph cell)) → IsFitting graph a
-  straight_fitting a i = by_part (in_append a (map attempts_alone (chains_of graph corners)) (moves_over (chains_of graph corners) (filter (is_corner corners) (nodes_of graph)) ++ moves_over (single_runs graph) (nodes_of graph)) i)
+  straight_fitting a i = elim (in_append a (map attempts_alone (chains_of graph corners)) (moves_over (chains_of graph corners) (filter (is_corner corners) (nodes_of graph)) ++ moves_over (single_runs graph) (nodes_of graph)) i) [
+    | inl j ↦ (let at = from_map attempts_alone (chains_of graph corners) a j in subst (IsFitting graph) (sym at.2) (alone_fitting graph at.0 (chain_run graph fit cell at.0 at.1).0))
+    | inr j ↦ by_rest (in_append a (moves_over (chains_of graph corners) (filter (is_corner corners) (nodes_of graph))) (moves_over (single_runs graph) (nodes_of graph)) j)
+  ]
     where
       node_of : (n : NodeId) → In n (nodes_of graph) → n.0 < length graph.kinds
       node_of n j = let r = from_range 0 (length graph.kinds) n j in omega (arith, r.1)
@@ -408,11 +409,6 @@ module _ (graph : GraphParts) (fit : IsConsistent graph) (cell : ℕ) where
       by_rest (inr j) =
           over_fitting graph fit (single_runs graph) (λ c k. let at = single_is graph c k in subst (IsRun graph) (sym at.2) (single_run graph fit at.0 at.1)) (singles_beside graph 0 (length graph.ends)) (nodes_of graph)
           (λ n k. node_served graph fit n (node_of n k)) single_ends a j
-
-      by_part : In a (map attempts_alone (chains_of graph corners)) ⊎ In a (moves_over (chains_of graph corners) (filter (is_corner corners) (nodes_of graph)) ++ moves_over (single_runs graph) (nodes_of graph)) → IsFitting graph a
-      by_part (inl j) = let at = from_map attempts_alone (chains_of graph corners) a j in subst (IsFitting graph) (sym at.2) (alone_fitting graph at.0 (chain_run graph fit cell at.0 at.1).0)
-      by_part (inr j) =
-          by_rest (in_append a (moves_over (chains_of graph corners) (filter (is_corner corners) (nodes_of graph))) (moves_over (single_runs graph) (nodes_of graph)) j)
 
   pub all_fitting : All (IsFitting graph) (straight_attempts graph (corners_of graph cell))
   all_fitting = all_of (IsFitting graph) (straight_attempts graph (corners_of graph cell)) straight_fitting

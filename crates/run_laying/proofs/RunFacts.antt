@@ -143,8 +143,7 @@ step_of graph n (t ∷ u ∷ us) steps q (inr m) = step_of graph t.to (u ∷ us)
 
 -- so a node between steps is the end of no segment off the run
 pub inner_off : (graph : GraphParts) → IsConsistent graph → (ts : List ChainStep) (m : NodeId) → IsInner graph ts m → (q : SegId) → q.0 < length graph.ends → IsOff ts q → IsEndOf graph q m.0 → ⊥
-inner_off graph fit ts m i q below off is_end = which (only_two graph fit i.before.seg i.after.seg m q i.alone i.node below is_end)
-  where
-    which : (q ≡ i.before.seg) ⊎ (q ≡ i.after.seg) → ⊥
-    which (inl e) = off i.before i.on_before (ap (λ (s : SegId). s.0) (sym e))
-    which (inr e) = off i.after i.on_after (ap (λ (s : SegId). s.0) (sym e))
+inner_off graph fit ts m i q below off is_end = elim (only_two graph fit i.before.seg i.after.seg m q i.alone i.node below is_end) [
+  | inl e ↦ off i.before i.on_before (ap (λ (s : SegId). s.0) (sym e))
+  | inr e ↦ off i.after i.on_after (ap (λ (s : SegId). s.0) (sym e))
+]

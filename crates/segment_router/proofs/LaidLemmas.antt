@@ -120,7 +120,10 @@ pub record AtSettledEnd (graph : GraphParts) (r : Routed) (s : SegId) (d : GridP
   pub there : doubled (node_point r node) ≡ d
 
 at_settled_end : (graph : GraphParts) (r : Routed) (s : SegId) (w : PlainWalk) → Goes graph r s w → (d : GridPoint) → In d (doubled_of w) → r.board.is_taken d ≡ true → AtSettledEnd graph r s d
-at_settled_end graph r s w g d m taken = by_end (or_cases _ _ (g.route.clear d m taken))
+at_settled_end graph r s w g d m taken = elim (or_cases (not (not (is_settled r (ends_of graph s).0.0)) && are_one (doubled w.start) d) (not (not (is_settled r (ends_of graph s).1.0)) && are_one (doubled (end_point w)) d) (g.route.clear d m taken)) [
+  | inl e ↦ low_end (and_parts _ _ e)
+  | inr e ↦ up_end (and_parts _ _ e)
+]
   where
     low_end : (not (not (is_settled r (ends_of graph s).0.0)) ≡ true) × (are_one (doubled w.start) d ≡ true) → AtSettledEnd graph r s d
     low_end (e, f) =
@@ -143,10 +146,6 @@ at_settled_end graph r s w g d m taken = by_end (or_cases _ _ (g.route.clear d m
           settled = settled;
           there = ap doubled (sym (g.route.at_end.of_settled (ap not settled))) ∙ one_point (doubled (end_point w)) d f;
         }
-
-    by_end : ((not (not (is_settled r (ends_of graph s).0.0)) && are_one (doubled w.start) d) ≡ true) ⊎ ((not (not (is_settled r (ends_of graph s).1.0)) && are_one (doubled (end_point w)) d) ≡ true) → AtSettledEnd graph r s d
-    by_end (inl e) = low_end (and_parts _ _ e)
-    by_end (inr e) = up_end (and_parts _ _ e)
 
 -- the new walk and one that was laid before
 new_meeting : (graph : GraphParts) (r : Routed) (s : SegId) (w : PlainWalk) → Goes graph r s w → IsLaid graph r → (t : SegId) (v : PlainWalk) (d : GridPoint) → walk_at r t ≡ Some v → In d (doubled_of w) → In d (doubled_of v)

@@ -68,7 +68,10 @@ shown_begins graph placing fit = record {
 -- one walk more
 node_then : (graph : GraphParts) (r : Routed) (s : SegId) (w : PlainWalk) → Goes graph r s w → ((p : GridPoint) → r.board.is_node p ≡ true → NodeAt graph r p) → (p : GridPoint)
     → (with_route graph r s w).board.is_node p ≡ true → NodeAt graph (with_route graph r s w) p
-node_then graph r s w g before p e = by_new (or_cases _ _ e)
+node_then graph r s w g before p e = elim (or_cases (are_one (end_point w) p) (not (are_one (get_or (set r.points (ends_of graph s).0.0 w.start) (ends_of graph s).1.0 (record { x = pos 0; y = pos 0 })) p) && (are_one w.start p || (not (are_one (node_point r (ends_of graph s).0.0) p) && r.board.is_node p))) e) [
+  | inl h ↦ at_up h
+  | inr h ↦ (let parts = and_parts _ _ h in by_old (ap (λ (c : GridPoint). are_one c p) (sym (up_before graph r s w g)) ∙ not-true _ parts.0) (or_cases _ _ parts.1))
+]
   where
     at_low : are_one w.start p ≡ true → NodeAt graph (with_route graph r s w) p
     at_low h = record { node = (ends_of graph s).0.0; within = g.low_node; there = low_point graph r s w g ∙ one_point w.start p h }
@@ -90,12 +93,6 @@ node_then graph r s w g before p e = by_new (or_cases _ _ e)
     by_old : are_one (node_point r (ends_of graph s).1.0) p ≡ false → (are_one w.start p ≡ true) ⊎ ((not (are_one (node_point r (ends_of graph s).0.0) p) && r.board.is_node p) ≡ true) → NodeAt graph (with_route graph r s w) p
     by_old f (inl h) = at_low h
     by_old f (inr h) = let parts = and_parts _ _ h in other (not-true _ parts.0) f (before p parts.1)
-
-    by_new : (are_one (end_point w) p ≡ true)
-        ⊎ ((not (are_one (get_or (set r.points (ends_of graph s).0.0 w.start) (ends_of graph s).1.0 (record { x = pos 0; y = pos 0 })) p) && (are_one w.start p || (not (are_one (node_point r (ends_of graph s).0.0) p) && r.board.is_node p))) ≡ true)
-        → NodeAt graph (with_route graph r s w) p
-    by_new (inl h) = at_up h
-    by_new (inr h) = let parts = and_parts _ _ h in by_old (ap (λ (c : GridPoint). are_one c p) (sym (up_before graph r s w g)) ∙ not-true _ parts.0) (or_cases _ _ parts.1)
 
 shown_more : (graph : GraphParts) → IsConsistent graph → (r : Routed) → IsShown graph r → (s : SegId) → s.0 < length graph.ends → walk_at r s ≡ None → (w : PlainWalk) → route_of graph r s ≡ Some w
     → IsShown graph (with_route graph r s w)

@@ -1,5 +1,5 @@
 -- Spots and their numbers.
-use Rattle.std.proofs.Common.{◌≡◌, ◌≢◌, refl, sym, ◌∙◌, ap, ap₂, subst, ℕ, ◌+◌, ◌*◌, ◌/◌, ◌%◌, ◌<◌, ◌⊎◌, inl, inr, cond, eqb, Option, Some, None, arith}
+use Rattle.std.proofs.Common.{◌≡◌, ◌≢◌, refl, sym, ◌∙◌, ap, ap₂, subst, ℕ, ◌+◌, ◌*◌, ◌/◌, ◌%◌, ◌<◌, inl, inr, cond, eqb, Option, Some, None, arith}
 use Rattle.std.specs.Prelude.{IfSome}
 use Rattle.std.proofs.lemmas.Bool.{ne_eqb, eq-eqb, eqb-true, cases_eq, cases_Bool}
 use Rattle.octi_grid.specs.declared.point.GridPoint.{GridPoint}
@@ -49,23 +49,21 @@ whole : (n : ℕ) → (n / 90 * 10 + n / 9 % 10) * 9 + n % 9 ≡ n
 whole n = omega arith
 
 pub spot_of-is : (b : Bounds) (n : ℕ) (s : Spot) → AreBounds b → n < spots_of b + 1 → spot_of b n ≡ Some s → IsSpotOf b n s
-spot_of-is b n s h below e = of_case (cases_eq n (spots_of b))
+spot_of-is b n s h below e = elim (cases_eq n (spots_of b)) [
+  | inl same ↦ (let clash : None ≡ Some s = sym (ap (λ t. cond t None (Some spot_at)) (eq-eqb n (spots_of b) same)) ∙ e in absurd (let no : ⊥ = cc in no))
+  | inr apart ↦ (let is : spot_at ≡ s = some_same spot_at s (sym (ap (λ t. cond t None (Some spot_at)) (ne_eqb n (spots_of b) apart)) ∙ e) in
+      subst (λ (x : Spot). IsSpotOf b n x) is
+      (record {
+        spot = record { inside = inside_test b (point_of b (n / 90)) (point_inside b (frame_of b h) (n / 90) (cell_small apart)); arrival = omega arith; group = omega arith };
+        number = sym (ap (λ c. (c * 10 + n / 9 % 10) * 9 + n % 9) (cell_of-point b (n / 90)) ∙ whole n);
+      }))
+]
   where
     spot_at : Spot
     spot_at = record { at = point_of b (n / 90); arrival = n % 9; group = n / 9 % 10 }
 
     cell_small : n ≢ spots_of b → n / 90 < cells_of b
     cell_small apart = omega arith
-
-    of_case : (n ≡ spots_of b) ⊎ (n ≡ spots_of b → ⊥) → IsSpotOf b n s
-    of_case (inl same) = let clash : None ≡ Some s = sym (ap (λ t. cond t None (Some spot_at)) (eq-eqb n (spots_of b) same)) ∙ e in absurd (let no : ⊥ = cc in no)
-    of_case (inr apart) =
-        let is : spot_at ≡ s = some_same spot_at s (sym (ap (λ t. cond t None (Some spot_at)) (ne_eqb n (spots_of b) apart)) ∙ e) in
-        subst (λ (x : Spot). IsSpotOf b n x) is
-        (record {
-          spot = record { inside = inside_test b (point_of b (n / 90)) (point_inside b (frame_of b h) (n / 90) (cell_small apart)); arrival = omega arith; group = omega arith };
-          number = sym (ap (λ c. (c * 10 + n / 9 % 10) * 9 + n % 9) (cell_of-point b (n / 90)) ∙ whole n);
-        })
 
 pub spot_of-none : (b : Bounds) → spot_of b (spots_of b) ≡ None
 spot_of-none b =

@@ -34,11 +34,10 @@ where_doubled r p [] (inl e) = inl (record { before = []; rest = []; splits = re
 where_doubled r p [] (inr h) = absurd h
 where_doubled r p (d ∷ ds) (inl e) = inl (record { before = []; rest = d ∷ ds; splits = refl; is = e })
 where_doubled r p (d ∷ ds) (inr (inl e)) = inr (record { before = []; step = d; rest = ds; splits = refl; is = e })
-where_doubled r p (d ∷ ds) (inr (inr h)) = further (where_doubled r (step_from p d) ds h)
-  where
-    further : IsPointOf r (step_from p d) ds ⊎ IsMiddleOf r (step_from p d) ds → IsPointOf r p (d ∷ ds) ⊎ IsMiddleOf r p (d ∷ ds)
-    further (inl a) = inl (record { before = d ∷ a.before; rest = a.rest; splits = ap (λ es. d ∷ es) a.splits; is = a.is })
-    further (inr a) = inr (record { before = d ∷ a.before; step = a.step; rest = a.rest; splits = ap (λ es. d ∷ es) a.splits; is = a.is })
+where_doubled r p (d ∷ ds) (inr (inr h)) = elim (where_doubled r (step_from p d) ds h) [
+  | inl a ↦ inl (record { before = d ∷ a.before; rest = a.rest; splits = ap (λ es. d ∷ es) a.splits; is = a.is })
+  | inr a ↦ inr (record { before = d ∷ a.before; step = a.step; rest = a.rest; splits = ap (λ es. d ∷ es) a.splits; is = a.is })
+]
 
 -- where a walk has a doubled point twice, there is one that costs less
 point_again : (q : Question) → IsQuestion q → (start : GridPoint) (us : List Dir) (d : Dir) (ds : List Dir) → IsFreeBy q start (us ++ d ∷ ds) → IsPointOf (doubled (after start us)) (step_from (after start us) d) ds →

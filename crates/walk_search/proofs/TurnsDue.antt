@@ -158,18 +158,15 @@ straight_on q p d false e =
     omega (arith, on, here)
 
 pub due_farther : (q : Question) (p : GridPoint) (a d : Dir) → due q (step_from p d) d ≤ due q p a + turn_between a d
-due_farther q p a d = of_turn (cases_eq (turn_between a d) 0)
-  where
-    of_turn : (turn_between a d ≡ 0) ⊎ (turn_between a d ≡ 0 → ⊥) → due q (step_from p d) d ≤ due q p a + turn_between a d
-    of_turn (inl none) =
-        subst (λ (b : Dir). due q (step_from p d) d ≤ due q p b + turn_between a d) (sym (turn_nowhere a d none))
-        (let on = straight_on q p d (lies_along q.from.at p d) refl in omega (arith, on))
-    of_turn (inr some) =
-        let on : due q (step_from p d) d ≤ max 1 (least_of_turns q.from.ports d 8) = due_most (lies_along q.from.at (step_from p d) d) (least_of_turns q.from.ports d 8) in
-        let farther : least_of_turns q.from.ports d 8 ≤ least_of_turns q.from.ports a 8 + turn_between a d = least_farther q.from.ports a d 8 in
-        let here : least_of_turns q.from.ports a 8 ≤ due q p a = due_least (lies_along q.from.at p a) (least_of_turns q.from.ports a 8) in
-        let turns : 1 ≤ turn_between a d = omega (arith, some) in
-        omega (arith, on, farther, here, turns)
+due_farther q p a d = elim (cases_eq (turn_between a d) 0) [
+  | inl none ↦ subst (λ (b : Dir). due q (step_from p d) d ≤ due q p b + turn_between a d) (sym (turn_nowhere a d none))
+      (let on = straight_on q p d (lies_along q.from.at p d) refl in omega (arith, on))
+  | inr some ↦ (let on : due q (step_from p d) d ≤ max 1 (least_of_turns q.from.ports d 8) = due_most (lies_along q.from.at (step_from p d) d) (least_of_turns q.from.ports d 8) in
+      let farther : least_of_turns q.from.ports d 8 ≤ least_of_turns q.from.ports a 8 + turn_between a d = least_farther q.from.ports a d 8 in
+      let here : least_of_turns q.from.ports a 8 ≤ due q p a = due_least (lies_along q.from.at p a) (least_of_turns q.from.ports a 8) in
+      let turns : 1 ≤ turn_between a d = omega (arith, some) in
+      omega (arith, on, farther, here, turns))
+]
 
 -- by an allowed port none is due from the home of the start, and one at most from elsewhere
 pub due_first : (q : Question) (l : ℕ) → l < 8 → allows q.from.ports (Some (direction l)) ≡ true → due q (step_from q.from.at (direction l)) (direction l) ≡ 0
