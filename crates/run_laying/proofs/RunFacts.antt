@@ -74,35 +74,22 @@ leads_to graph n t (inl e) = inr (ap (λ (p : NodeId × NodeId). p.1.0) e)
 leads_to graph n t (inr e) = inl (ap (λ (p : NodeId × NodeId). p.0.0) e)
 
 pub end_below : (graph : GraphParts) → IsConsistent graph → (s : SegId) (n : ℕ) → s.0 < length graph.ends → IsEndOf graph s n → n < length graph.kinds
-end_below graph fit s n below is_end = by_end is_end
-  where
-    none : NodeId
-    none = record { 0 = 0 }
-
-    are : AreEnds (length graph.kinds) (ends_of graph s)
-    are = fit.ends s.0 (none, none) below
-
-    by_end : IsEndOf graph s n → n < length graph.kinds
-    by_end (inl e) = omega (arith, are.0, are.1, e)
-    by_end (inr e) = omega (arith, are.1, e)
+end_below graph fit s n below is_end =
+    let are : AreEnds (length graph.kinds) (ends_of graph s) = fit.ends s.0 (record { 0 = 0 }, record { 0 = 0 }) below in
+    elim is_end [ inl e ↦ omega (arith, are.0, are.1, e) | inr e ↦ omega (arith, are.1, e) ]
 
 -- a node at which two segments alone meet is the end of no other
 pub only_two : (graph : GraphParts) → IsConsistent graph → (s r : SegId) (m : NodeId) (q : SegId) → MeetAlone graph s m r → m.0 < length graph.kinds → q.0 < length graph.ends → IsEndOf graph q m.0 → (q ≡ s) ⊎ (q ≡ r)
 only_two graph fit s r m q alone node below is_end = by_round alone (in_round graph fit q m.0 below node is_end)
   where
+    one_of : (u v : SegId) → In q (u ∷ v ∷ []) → (q ≡ u) ⊎ (q ≡ v)
+    one_of u v (inl f) = inl f
+    one_of u v (inr (inl f)) = inr f
+    one_of u v (inr (inr n)) = absurd n
+
     by_round : MeetAlone graph s m r → In q (round_of graph m) → (q ≡ s) ⊎ (q ≡ r)
-    by_round (inl e) i = which (subst (λ (v : List SegId). In q v) e i)
-      where
-        which : In q (s ∷ r ∷ []) → (q ≡ s) ⊎ (q ≡ r)
-        which (inl f) = inl f
-        which (inr (inl f)) = inr f
-        which (inr (inr n)) = absurd n
-    by_round (inr e) i = which (subst (λ (v : List SegId). In q v) e i)
-      where
-        which : In q (r ∷ s ∷ []) → (q ≡ s) ⊎ (q ≡ r)
-        which (inl f) = inr f
-        which (inr (inl f)) = inl f
-        which (inr (inr n)) = absurd n
+    by_round (inl e) i = one_of s r (subst (λ (v : List SegId). In q v) e i)
+    by_round (inr e) i = elim (one_of r s (subst (λ (v : List SegId). In q v) e i)) [ inl f ↦ inr f | inr f ↦ inl f ]
 
 -- a node between two steps, with both
 pub record IsInner (graph : GraphParts) (ts : List ChainStep) (m : NodeId) : Type 0 where
