@@ -1,6 +1,6 @@
 -- Moves from spot to spot are steps that a search may rest on.
 use Rattle.std.proofs.Common.{◌≡◌, refl, sym, ◌∙◌, ap, ap₂, subst, ℕ, ◌+◌, ◌<◌, ◌≤◌, ◌⊎◌, inl, inr, Bool, true, false, cond, eqb, ltb, ◌&&◌, ◌||◌, length, Option, Some, None, arith}
-use Rattle.std.proofs.lemmas.Bool.{and_parts, ltb-true, ne_eqb, cond_both, eqb-false}
+use Rattle.std.proofs.lemmas.Bool.{and_parts, ltb-true, ne_eqb, cond_both, eqb-false, cases_Bool}
 use Rattle.least_path.proofs.Chosen.{all-at}
 use Rattle.octi_grid.specs.declared.dir.Dir.{Dir}
 use Rattle.octi_grid.specs.Ways.{are_one, reverse_of, step_from}
@@ -147,7 +147,19 @@ unfolding ahead_at
 at_start q p n h = ap (λ t. cond t (seat_ahead q p) (step_ahead q p n)) h
 
 step_rises : (q : Question) (s : Spot) (l : ℕ) (landing : Spot) (c : ℕ) → s.arrival < 9 → IsStepped q s l landing c → ahead_at q (step_from s.at (direction l)) l ≤ ahead_at q s.at s.arrival + c
-step_rises q s l landing c small m = of_start (eqb s.arrival 8) refl
+step_rises q s l landing c small m = elim (cases_Bool (eqb s.arrival 8)) [
+  | inl e ↦ (let here : ahead_at q s.at s.arrival ≡ seat_ahead q s.at = at_start q s.at s.arrival e in
+      let leaves : (is_start q s.at s.group && allows q.from.ports (Some d)) ≡ true =
+      sym (ap (λ t. cond t (is_start q s.at s.group && allows q.from.ports (Some d)) (is_passable q.board s.at)) e) ∙ m.leaves in
+      let due_here = start_due q s.at l m.below (and_parts (is_start q s.at s.group) (allows q.from.ports (Some d)) leaves).1 in
+      omega (arith, after, here, due_here, cost))
+  | inr e ↦ (let a : Dir = direction s.arrival in
+      let below : s.arrival < 8 = omega (arith, small, eqb-false s.arrival 8 e) in
+      let here : reach_of q.from.at s.at + due q s.at a ≤ ahead_at q s.at s.arrival = arrived_ahead q s.at s.arrival below in
+      let farther = due_farther q s.at a d in
+      let turn : turn_from s.arrival d ≡ turn_between a d = ap (λ t. cond t 0 (turn_between a d)) e in
+      omega (arith, after, here, farther, turn, cost))
+]
   where
     d : Dir
     d = direction l
@@ -157,21 +169,6 @@ step_rises q s l landing c small m = of_start (eqb s.arrival 8) refl
 
     cost : c ≡ step_cost d + turn_from s.arrival d
     cost = m.cost
-
-    of_start : (t : Bool) → eqb s.arrival 8 ≡ t → ahead_at q (step_from s.at d) l ≤ ahead_at q s.at s.arrival + c
-    of_start true e =
-        let here : ahead_at q s.at s.arrival ≡ seat_ahead q s.at = at_start q s.at s.arrival e in
-        let leaves : (is_start q s.at s.group && allows q.from.ports (Some d)) ≡ true =
-        sym (ap (λ t. cond t (is_start q s.at s.group && allows q.from.ports (Some d)) (is_passable q.board s.at)) e) ∙ m.leaves in
-        let due_here = start_due q s.at l m.below (and_parts (is_start q s.at s.group) (allows q.from.ports (Some d)) leaves).1 in
-        omega (arith, after, here, due_here, cost)
-    of_start false e =
-        let a : Dir = direction s.arrival in
-        let below : s.arrival < 8 = omega (arith, small, eqb-false s.arrival 8 e) in
-        let here : reach_of q.from.at s.at + due q s.at a ≤ ahead_at q s.at s.arrival = arrived_ahead q s.at s.arrival below in
-        let farther = due_farther q s.at a d in
-        let turn : turn_from s.arrival d ≡ turn_between a d = ap (λ t. cond t 0 (turn_between a d)) e in
-        omega (arith, after, here, farther, turn, cost)
 
 -- what a move by numbers is
 pub record IsMoved (q : Question) (a l c : ℕ) (landing : Spot) : Type 0 where
