@@ -149,10 +149,7 @@ impl<'a> Asked<'a> {
     fn is_own_start(&self, p: GridPoint) -> bool
         ensures { result ≡ is_own_start (question self.now) p }
     {
-        if !is_among(&self.starts, p) {
-            return false;
-        }
-        !is_among(&self.ends, p)
+        is_among(&self.starts, p) && !is_among(&self.ends, p)
     }
 
     /// Whether walks of another group may start at a point: it is the group's seat, and one of the end too.
@@ -160,13 +157,7 @@ impl<'a> Asked<'a> {
         requires { 0 < group }
         ensures { result ≡ is_shared_start (question self.now) p group }
     {
-        if self.start_count() < group {
-            return false;
-        }
-        if !are_one(self.start(group - 1), p) {
-            return false;
-        }
-        is_among(&self.ends, p)
+        group <= self.start_count() && are_one(self.start(group - 1), p) && is_among(&self.ends, p)
     }
 
     /// Whether the walks of a group may start at a point.
@@ -200,13 +191,7 @@ impl<'a> Asked<'a> {
     pub(crate) fn is_end(&self, p: GridPoint, group: u8) -> bool
         ensures { result ≡ is_end (question self.now) p group }
     {
-        if !is_among(&self.ends, p) {
-            return false;
-        }
-        if group == 0 {
-            return true;
-        }
-        self.is_other_end(p, group)
+        is_among(&self.ends, p) && (group == 0 || self.is_other_end(p, group))
     }
 
     /// Whether a walk that stands at a spot may end there.
@@ -214,10 +199,7 @@ impl<'a> Asked<'a> {
         requires { spot.arrival < 8 }
         ensures { result ≡ may_end (question self.now) spot }
     {
-        if !self.is_end(spot.at, spot.group) {
-            return false;
-        }
-        self.allows_end(spot.arrival)
+        self.is_end(spot.at, spot.group) && self.allows_end(spot.arrival)
     }
 
     /// Whether a walk may come to its end in a direction.
@@ -256,10 +238,7 @@ impl<'a> Asked<'a> {
         requires { is_inside (question self.now).board p ≡ true }
         ensures { result ≡ is_passable (question self.now).board p }
     {
-        if self.board.is_node(p) {
-            return false;
-        }
-        is_clear(self.board, p)
+        !self.board.is_node(p) && is_clear(self.board, p)
     }
 
     /// Whether a step from a point stays on the board, and no walk has its middle.
@@ -267,10 +246,7 @@ impl<'a> Asked<'a> {
         requires { CanStep p }
         ensures { result ≡ is_open (question self.now).board p dir }
     {
-        if !self.board.bounds().contains(p) {
-            return false;
-        }
-        self.is_open_from(p, dir)
+        self.board.bounds().contains(p) && self.is_open_from(p, dir)
     }
 
     /// The same from a point of the board.
@@ -298,10 +274,7 @@ impl<'a> Asked<'a> {
     pub(crate) fn allows_start(&self, p: GridPoint, group: u8, dir: Dir) -> bool
         ensures { result ≡ (is_start (question self.now) p group && allows (question self.now).from.ports (Some dir)) }
     {
-        if !self.is_start(p, group) {
-            return false;
-        }
-        allows(self.from.ports, dir)
+        self.is_start(p, group) && allows(self.from.ports, dir)
     }
 
     /// The seats of the start.
@@ -323,10 +296,7 @@ impl<'a> Asked<'a> {
     fn leaves_start(&self, p: GridPoint, dir: Dir) -> bool
         ensures { result ≡ leaves_start (question self.now) p dir }
     {
-        if !is_among(&self.starts, p) {
-            return false;
-        }
-        allows(self.from.ports, dir)
+        is_among(&self.starts, p) && allows(self.from.ports, dir)
     }
 
     /// Whether, however a walk came to a point, a step may lead on from there.
@@ -360,10 +330,7 @@ impl<'a> Asked<'a> {
         requires { is_inside (question self.now).board spot.at ≡ true }
         ensures { result ≡ (may_leave (question self.now) spot dir && is_open (question self.now).board spot.at dir) }
     {
-        if !self.may_leave(spot, dir) {
-            return false;
-        }
-        self.is_open(spot.at, dir)
+        self.may_leave(spot, dir) && self.is_open(spot.at, dir)
     }
 
     /// What a seat of the start costs.
