@@ -181,10 +181,7 @@ impl<'a> Asked<'a> {
             return false;
         }
         let start = self.start(group - 1);
-        if !is_among(&self.ends, start) {
-            return false;
-        }
-        !are_one(start, p)
+        is_among(&self.ends, start) && !are_one(start, p)
     }
 
     /// Whether there are walks of a group, and they may end at a point.
