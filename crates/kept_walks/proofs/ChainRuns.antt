@@ -64,7 +64,9 @@ in_by graph corners n (t ∷ ss) s (inl same) e =
     (subst (λ b. In (way_from graph corners n s) (cond b (way_from graph corners n s ∷ chains_by graph corners n ss) (chains_by graph corners n ss))) (sym e) (inl refl))
 in_by graph corners n (t ∷ ss) s (inr i) e =
     let later = in_by graph corners n ss s i e in
-    cond_both (is_forward graph t (way_from graph corners n t)) (way_from graph corners n t ∷ chains_by graph corners n ss) (chains_by graph corners n ss) (In (way_from graph corners n s)) (λ b. inr later) (λ b. later)
+    cond_both (is_forward graph t (way_from graph corners n t))
+    (way_from graph corners n t ∷ chains_by graph corners n ss) (chains_by graph corners n ss)
+    (In (way_from graph corners n s)) (λ b. inr later) (λ b. later)
 
 pub from_range : (a k : ℕ) (m : NodeId) → In m (map (λ n. (let x : NodeId = record { 0 = n } in x)) (range_with_len a k)) → (a ≤ m.0) × (m.0 < a + k)
 from_range a zero m i = absurd i

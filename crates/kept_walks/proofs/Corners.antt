@@ -53,7 +53,9 @@ kept_ring graph (m ∷ ns) corners n e = kept_ring graph ns (with_ring graph cor
 
 many_rings : (graph : GraphParts) (ns : List NodeId) (corners : List Bool) → length (fold (with_ring graph) corners ns) ≡ length corners
 many_rings graph [] corners = refl
-many_rings graph (m ∷ ns) corners = many_rings graph ns (with_ring graph corners m) ∙ cond_both (is_reached graph corners m) corners (set corners m.0 true) (λ flags. length flags ≡ length corners) (λ b. refl) (λ b. length-set corners m.0 true)
+many_rings graph (m ∷ ns) corners =
+    many_rings graph ns (with_ring graph corners m) ∙ cond_both (is_reached graph corners m) corners
+    (set corners m.0 true) (λ flags. length flags ≡ length corners) (λ b. refl) (λ b. length-set corners m.0 true)
 
 pub ring_many : (graph : GraphParts) → IsConsistent graph → length (ring_corners graph) ≡ length graph.kinds
 ring_many graph fit = many_rings graph (nodes_of graph) (plain_corners graph) ∙ length-map graph.rounds (λ (round : List SegId). not (eqb (length round) 2)) ∙ fit.round_each
@@ -68,7 +70,9 @@ ring_has graph fit n node e = eqb-true (length (round_of graph n)) 2 (not-false 
     plain = get_or-map (λ (round : List SegId). not (eqb (length round) 2)) graph.rounds n.0 [] false (omega (arith, node, fit.round_each))
 
     free : get_or (plain_corners graph) n.0 false ≡ false
-    free = false_from_ne_true (get_or (plain_corners graph) n.0 false) (λ f. true≢false (sym (kept_ring graph (nodes_of graph) (plain_corners graph) n.0 f) ∙ e))
+    free =
+        false_from_ne_true (get_or (plain_corners graph) n.0 false)
+        (λ f. true≢false (sym (kept_ring graph (nodes_of graph) (plain_corners graph) n.0 f) ∙ e))
 
 -- ---- bends
 
@@ -129,14 +133,15 @@ bend_at (suc most) graph cell nodes m i = by_test (is_bent graph cell nodes) ref
       where
         long : 2 < length nodes
         long = ltb-true 2 (length nodes) (and_parts (nat_lt 2 (length nodes)) ((eqb (node_at nodes 0).0 (node_at nodes (last_place nodes)).0) || nat_lt (far_off graph cell nodes) (greatest (offs_of graph nodes))) e).0
-    by_test true e (inr j) in_front in_rear = elim (in_append m (bends_of most graph cell front) (bends_of most graph cell rear) j) [
-      | inl x ↦ (let at = in_front x in
-          let many = length-take (k + 1) nodes in
-          record { place = at.place; after = at.after; before = omega (arith, at.before, many); there = sym (get_or-take (k + 1) nodes at.place (record { 0 = 0 }) (omega (arith, at.before, many))) ∙ at.there })
-      | inr x ↦ (let at = in_rear x in
-          let many = length-drop k nodes in
-          record { place = k + at.place; after = omega (arith, at.after); before = omega (arith, at.before, many); there = sym (get_or-drop k nodes at.place (record { 0 = 0 })) ∙ at.there })
-    ]
+    by_test true e (inr j) in_front in_rear =
+        elim (in_append m (bends_of most graph cell front) (bends_of most graph cell rear) j) [
+          | inl x ↦ (let at = in_front x in
+              let many = length-take (k + 1) nodes in
+              record { place = at.place; after = at.after; before = omega (arith, at.before, many); there = sym (get_or-take (k + 1) nodes at.place (record { 0 = 0 }) (omega (arith, at.before, many))) ∙ at.there })
+          | inr x ↦ (let at = in_rear x in
+              let many = length-drop k nodes in
+              record { place = k + at.place; after = omega (arith, at.after); before = omega (arith, at.before, many); there = sym (get_or-drop k nodes at.place (record { 0 = 0 })) ∙ at.there })
+        ]
 
 -- and among the nodes of a chain
 inner_place : (ts : List ChainStep) (i : ℕ) → i + 1 < length ts → In (node_at (map (λ (t : ChainStep). t.to) ts) i) (inner_nodes ts)

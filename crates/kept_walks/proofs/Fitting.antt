@@ -310,7 +310,9 @@ module _ (graph : GraphParts) (fit : IsConsistent graph) (runs : List Chain) (ru
 
 alone_fitting : (graph : GraphParts) (c : Chain) → IsRun graph c → IsFitting graph (attempts_alone c)
 alone_fitting graph c run = record {
-  runs = all_of (IsRun graph) (c ∷ []) (λ d i. elim i [ inl e ↦ subst (IsRun graph) (sym e) run | inr none ↦ absurd none ]);
+  runs =
+      all_of (IsRun graph) (c ∷ [])
+      (λ d i. elim i [ inl e ↦ subst (IsRun graph) (sym e) run | inr none ↦ absurd none ]);
   beside = ((λ t there. refl), tt);
   nodes = λ k d h. absurd (omega (arith, h));
   ends = λ k d h. absurd (omega (arith, h));
@@ -331,10 +333,11 @@ singles_beside graph a (suc k) = (off, singles_beside graph (a + 1) k)
     off t there = false_from (is_on_runs (map (λ s. run_of graph (record { 0 = s })) (range_with_len (a + 1) k)) t.seg.0) (λ e. by_run (any_at (λ (c : Chain). list_any (λ (u : ChainStep). eqb u.seg.0 t.seg.0) c.steps) (map (λ s. run_of graph (record { 0 = s })) (range_with_len (a + 1) k)) e))
       where
         own : t.seg.0 ≡ a
-        own = elim (in_from (record { seg = record { 0 = a }; to = (ends_of graph (record { 0 = a })).1 } ∷ []) t there) [
-          | inl e ↦ ap (λ (x : ChainStep). x.seg.0) e
-          | inr none ↦ absurd none
-        ]
+        own =
+            elim (in_from (record { seg = record { 0 = a }; to = (ends_of graph (record { 0 = a })).1 } ∷ []) t there) [
+              | inl e ↦ ap (λ (x : ChainStep). x.seg.0) e
+              | inr none ↦ absurd none
+            ]
 
         from_later : (b m : ℕ) (x : ℕ) → In x (range_with_len b m) → b ≤ x
         from_later b zero x i = absurd i

@@ -78,7 +78,10 @@ inner_push n [] u m i = absurd i
 inner_push n (t ∷ []) u m (inl e) = inr (omega arith, e)
 inner_push n (t ∷ []) u m (inr i) = absurd i
 inner_push n (t ∷ v ∷ vs) u m (inl e) = inl (inl e)
-inner_push n (t ∷ v ∷ vs) u m (inr i) = elim (inner_push t.to (v ∷ vs) u m i) [ inl j ↦ inl (inr j) | inr at ↦ inr (omega arith, at.1) ]
+inner_push n (t ∷ v ∷ vs) u m (inr i) = elim (inner_push t.to (v ∷ vs) u m i) [
+  | inl j ↦ inl (inr j)
+  | inr at ↦ inr (omega arith, at.1)
+]
 
 -- where steps end at a node that is not their start, the segment that goes on from there is off them
 pub next_off : (graph : GraphParts) → IsConsistent graph → (n : NodeId) (ts : List ChainStep) (o : SegId) → 0 < length ts → AreSteps graph n ts → AreOnce ts → (n.0 ≡ (end_after n ts).0 → ⊥) → IsOther graph (last_seg (first_seg_of ts) ts) (end_after n ts) o
@@ -139,7 +142,10 @@ module _ (graph : GraphParts) (fit : IsConsistent graph) (corners : List Bool) (
       once_on = once_push ts u once off
 
       inner_on : (k : NodeId) → In k (inner_nodes on) → is_corner corners k ≡ false
-      inner_on k i = elim (inner_push n ts u k i) [ inl j ↦ inner k j | inr there ↦ ap (is_corner corners) (there.1 ∙ at) ∙ free there.0 ]
+      inner_on k i = elim (inner_push n ts u k i) [
+        | inl j ↦ inner k j
+        | inr there ↦ ap (is_corner corners) (there.1 ∙ at) ∙ free there.0
+      ]
 
       at_on : end_after n on ≡ z
       at_on = end_push n ts u

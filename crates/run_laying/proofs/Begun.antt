@@ -130,10 +130,11 @@ module _ (graph : GraphParts) (fit : IsConsistent graph) (bounds : Bounds) (walk
       ((meets_fit graph walks on_board.drawn).clear (ends_of graph s, walk_of s) put.put (in_legs s h) put.there))
     where
       by_test : (put : PutAt graph walks n) → ((eqb (ends_of graph s).0.0 put.put.0 || eqb (ends_of graph s).1.0 put.put.0) ≡ true) ⊎ (not (is_among (doubled_of (walk_of s)) (doubled put.put.1)) ≡ true) → IsEndOf graph s n
-      by_test put (inl t) = elim (or_cases (eqb (ends_of graph s).0.0 put.put.0) (eqb (ends_of graph s).1.0 put.put.0) t) [
-        | inl u ↦ inl (eqb-true (ends_of graph s).0.0 put.put.0 u ∙ put.node)
-        | inr u ↦ inr (eqb-true (ends_of graph s).1.0 put.put.0 u ∙ put.node)
-      ]
+      by_test put (inl t) =
+          elim (or_cases (eqb (ends_of graph s).0.0 put.put.0) (eqb (ends_of graph s).1.0 put.put.0) t) [
+            | inl u ↦ inl (eqb-true (ends_of graph s).0.0 put.put.0 u ∙ put.node)
+            | inr u ↦ inr (eqb-true (ends_of graph s).1.0 put.put.0 u ∙ put.node)
+          ]
       by_test put (inr t) =
           absurd (true≢false (sym (among_from (doubled_of (walk_of s)) (doubled put.put.1) (subst (λ (q : GridPoint). In (doubled q) (doubled_of (walk_of s))) put.point m)) ∙ not-true (is_among (doubled_of (walk_of s)) (doubled put.put.1)) t))
 

@@ -75,7 +75,8 @@ passing_last p a (suc n) e =
     let same : a + 1 + n ≡ a + suc n = omega arith in
     let ys : List ℕ = passing p (a + 1) (suc n) in
     let rest : HasLast ys (a + suc n) = subst (λ j. HasLast ys j) same (passing_last p (a + 1) n (ap p same ∙ e)) in
-    cond_both (p a) (a ∷ ys) ys (λ xs. HasLast xs (a + suc n)) (λ t. record { at = suc rest.at; long = ap suc rest.long; there = rest.there }) (λ t. rest)
+    cond_both (p a) (a ∷ ys) ys (λ xs. HasLast xs (a + suc n))
+    (λ t. record { at = suc rest.at; long = ap suc rest.long; there = rest.there }) (λ t. rest)
 
 -- ---- the places of cuts
 

@@ -75,15 +75,19 @@ points_back p (d ∷ ds) =
 -- lists from back to front
 in_back : (xs : List GridPoint) (x : GridPoint) → In x (reverse xs) → In x xs
 in_back [] x m = m
-in_back (y ∷ ys) x m = elim (in_append x (reverse ys) (y ∷ []) (subst (λ (v : List GridPoint). In x v) (reverse-append (y ∷ []) ys) m)) [
-  | inl k ↦ inr (in_back ys x k)
-  | inr k ↦ elim k [ inl e ↦ inl e | inr n ↦ absurd n ]
-]
+in_back (y ∷ ys) x m =
+    elim (in_append x (reverse ys) (y ∷ []) (subst (λ (v : List GridPoint). In x v) (reverse-append (y ∷ []) ys) m)) [
+      | inl k ↦ inr (in_back ys x k)
+      | inr k ↦ elim k [ inl e ↦ inl e | inr n ↦ absurd n ]
+    ]
 
 to_back : (xs : List GridPoint) (x : GridPoint) → In x xs → In x (reverse xs)
 to_back [] x m = m
-to_back (y ∷ ys) x (inl e) = subst (λ (v : List GridPoint). In x v) (sym (reverse-append (y ∷ []) ys)) (in_right x (reverse ys) (y ∷ []) (inl e))
-to_back (y ∷ ys) x (inr m) = subst (λ (v : List GridPoint). In x v) (sym (reverse-append (y ∷ []) ys)) (in_left x (reverse ys) (y ∷ []) (to_back ys x m))
+to_back (y ∷ ys) x (inl e) =
+    subst (λ (v : List GridPoint). In x v) (sym (reverse-append (y ∷ []) ys)) (in_right x (reverse ys) (y ∷ []) (inl e))
+to_back (y ∷ ys) x (inr m) =
+    subst (λ (v : List GridPoint). In x v) (sym (reverse-append (y ∷ []) ys))
+    (in_left x (reverse ys) (y ∷ []) (to_back ys x m))
 
 distinct_back : (ps : List GridPoint) → are_distinct ps ≡ true → are_distinct (reverse ps) ≡ true
 distinct_back [] e = refl

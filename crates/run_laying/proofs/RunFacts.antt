@@ -75,7 +75,8 @@ leads_to graph n t (inr e) = inl (ap (λ (p : NodeId × NodeId). p.0.0) e)
 
 pub end_below : (graph : GraphParts) → IsConsistent graph → (s : SegId) (n : ℕ) → s.0 < length graph.ends → IsEndOf graph s n → n < length graph.kinds
 end_below graph fit s n below is_end =
-    let are : AreEnds (length graph.kinds) (ends_of graph s) = fit.ends s.0 (record { 0 = 0 }, record { 0 = 0 }) below in
+    let are : AreEnds (length graph.kinds) (ends_of graph s) =
+    fit.ends s.0 (record { 0 = 0 }, record { 0 = 0 }) below in
     elim is_end [ inl e ↦ omega (arith, are.0, are.1, e) | inr e ↦ omega (arith, are.1, e) ]
 
 -- a node at which two segments alone meet is the end of no other
@@ -130,7 +131,8 @@ step_of graph n (t ∷ u ∷ us) steps q (inr m) = step_of graph t.to (u ∷ us)
 
 -- so a node between steps is the end of no segment off the run
 pub inner_off : (graph : GraphParts) → IsConsistent graph → (ts : List ChainStep) (m : NodeId) → IsInner graph ts m → (q : SegId) → q.0 < length graph.ends → IsOff ts q → IsEndOf graph q m.0 → ⊥
-inner_off graph fit ts m i q below off is_end = elim (only_two graph fit i.before.seg i.after.seg m q i.alone i.node below is_end) [
-  | inl e ↦ off i.before i.on_before (ap (λ (s : SegId). s.0) (sym e))
-  | inr e ↦ off i.after i.on_after (ap (λ (s : SegId). s.0) (sym e))
-]
+inner_off graph fit ts m i q below off is_end =
+    elim (only_two graph fit i.before.seg i.after.seg m q i.alone i.node below is_end) [
+      | inl e ↦ off i.before i.on_before (ap (λ (s : SegId). s.0) (sym e))
+      | inr e ↦ off i.after i.on_after (ap (λ (s : SegId). s.0) (sym e))
+    ]

@@ -110,7 +110,8 @@ bits_of a b c d e f g h =
     all_bits a) b) c) d) e) f) g) h
 
 in_directions : (d : Dir) → In d directions
-in_directions d = subst (λ (e : Dir). In e directions) (direction-number_of d) (in_at directions (number_of d) dir.N (number_below d))
+in_directions d =
+    subst (λ (e : Dir). In e directions) (direction-number_of d) (in_at directions (number_of d) dir.N (number_below d))
 
 told : (test : Dir → Bool) (d : Dir) → test d ≡ test_of (test dir.N) (test dir.NE) (test dir.E) (test dir.SE) (test dir.S) (test dir.SW) (test dir.W) (test dir.NW) d
 told test =

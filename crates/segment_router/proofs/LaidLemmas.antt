@@ -94,8 +94,10 @@ question_fits graph fit r underway board s w g = record {
 -- a settled node stays where it is
 pub fixed_point : (graph : GraphParts) (r : Routed) (s : SegId) (w : PlainWalk) → Goes graph r s w → (n : ℕ) → is_settled r n ≡ true → node_point (with_route graph r s w) n ≡ node_point r n
 fixed_point graph r s w g n settled =
-    by_ends (λ v. is_settled r v ≡ true → node_point (with_route graph r s w) v ≡ node_point r v) (ends_of graph s).0.0 (ends_of graph s).1.0 n
-    (λ t. low_point graph r s w g ∙ g.route.at_start.of_settled (ap not t)) (λ t. up_point graph r s w g ∙ g.route.at_end.of_settled (ap not t))
+    by_ends (λ v. is_settled r v ≡ true → node_point (with_route graph r s w) v ≡ node_point r v) (ends_of graph s).0.0
+    (ends_of graph s).1.0 n
+    (λ t. low_point graph r s w g ∙ g.route.at_start.of_settled (ap not t))
+    (λ t. up_point graph r s w g ∙ g.route.at_end.of_settled (ap not t))
     (λ f h t. other_point graph r s w n f h) settled
 
 -- the new walk, or one that was laid before

@@ -83,7 +83,8 @@ pub done : (graph : GraphParts) → IsConsistent graph → (order : List SegId) 
     → ((s : SegId) → In s order → s.0 < length graph.ends) → route_each graph order old ≡ Ok r → IsDone graph order old r
 done graph fit [] old r laid clockwise within e =
     let same : old ≡ r = cc in
-    subst (IsDone graph [] old) same (record { laid = laid; clockwise = clockwise; each = λ s h. elim h [ inl m ↦ absurd m | inr k ↦ k ] })
+    subst (IsDone graph [] old) same
+    (record { laid = laid; clockwise = clockwise; each = λ s h. elim h [ inl m ↦ absurd m | inr k ↦ k ] })
 done graph fit (s ∷ order) old r laid clockwise within e =
     by_route (route_of graph old s) refl e (λ w k next. done graph fit order (with_route graph old s w) r (laid_more graph fit old laid s (within s (inl refl)) w k)
     (clockwise_more graph fit old s w (goes graph fit old laid.underway s (within s (inl refl)) w k) clockwise) (λ t m. within t (inr m)) next)

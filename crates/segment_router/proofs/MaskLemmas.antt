@@ -135,8 +135,13 @@ lone_mask f round seg none =
 -- a segment of a round ends at the node
 pub ends_round : (graph : GraphParts) → IsConsistent graph → (n : ℕ) → n < length graph.kinds → (s : SegId) → In s (get_or graph.rounds n []) → ((ends_of graph s).0.0 ≡ n) ⊎ ((ends_of graph s).1.0 ≡ n)
 ends_round graph fit n h s m =
-    let ends = all_in (λ (t : SegId). ends_at n (ends_of graph t) ≡ true) (get_or graph.rounds n []) s (round_ends graph fit n (omega (arith, fit.round_each))) m in
-    elim (or_cases (eqb (ends_of graph s).0.0 n) (eqb (ends_of graph s).1.0 n) ends) [ inl e ↦ inl (eqb-true _ _ e) | inr e ↦ inr (eqb-true _ _ e) ]
+    let ends =
+    all_in (λ (t : SegId). ends_at n (ends_of graph t) ≡ true) (get_or graph.rounds n []) s
+    (round_ends graph fit n (omega (arith, fit.round_each))) m in
+    elim (or_cases (eqb (ends_of graph s).0.0 n) (eqb (ends_of graph s).1.0 n) ends) [
+      | inl e ↦ inl (eqb-true _ _ e)
+      | inr e ↦ inr (eqb-true _ _ e)
+    ]
 
 -- at a node that is not settled no segment has its route, so all ports are allowed or none
 no_port : (graph : GraphParts) → IsConsistent graph → (r : Routed) → IsUnderway graph r → (n : ℕ) → n < length graph.kinds → is_settled r n ≡ false → (s : SegId) → In s (get_or graph.rounds n []) → port_at_node graph r n s ≡ None

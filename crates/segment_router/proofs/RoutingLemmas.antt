@@ -60,7 +60,8 @@ within_from m n i [] h = tt
 within_from m n i (e ∷ es) h =
     let here : i < m = omega arith in
     let rest = within_from m n (i + 1) es (omega arith) in
-    cond_both (ends_at n e) (record { 0 = i } ∷ segments_from (i + 1) n es) (segments_from (i + 1) n es) (AllByRecursion (λ (s : SegId). s.0 < m)) (λ t. (here, rest)) (λ t. rest)
+    cond_both (ends_at n e) (record { 0 = i } ∷ segments_from (i + 1) n es) (segments_from (i + 1) n es)
+    (AllByRecursion (λ (s : SegId). s.0 < m)) (λ t. (here, rest)) (λ t. rest)
 
 pub round_within : (graph : GraphParts) → IsConsistent graph → (n : ℕ) → n < length graph.kinds → (round : List SegId) → get_or graph.rounds n [] ≡ round → (i : ℕ) (d : SegId) → i < length round
     → (get_or round i d).0 < length graph.ends

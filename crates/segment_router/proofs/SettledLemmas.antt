@@ -90,7 +90,8 @@ by_ends P lo up n low high other = elim (cases_eq n lo) [
 
 pub stays_settled : (graph : GraphParts) (r : Routed) (s : SegId) (w : PlainWalk) → Goes graph r s w → (n : ℕ) → is_settled r n ≡ true → is_settled (with_route graph r s w) n ≡ true
 stays_settled graph r s w g n e =
-    by_ends (λ v. is_settled (with_route graph r s w) v ≡ true) (ends_of graph s).0.0 (ends_of graph s).1.0 n (low_settled graph r s w g) (up_settled graph r s w g)
+    by_ends (λ v. is_settled (with_route graph r s w) v ≡ true) (ends_of graph s).0.0 (ends_of graph s).1.0 n
+    (low_settled graph r s w g) (up_settled graph r s w g)
     (λ f h. other_settled graph r s w n f h ∙ e)
 
 -- the walks afterwards
@@ -152,7 +153,8 @@ pub point_holds : (graph : GraphParts) (r : Routed) (s : SegId) (w : PlainWalk) 
     → (n : ℕ) → ((n ≡ (ends_of graph s).0.0 → ⊥) → (n ≡ (ends_of graph s).1.0 → ⊥) → test (node_point r n) ≡ true) → test (node_point (with_route graph r s w) n) ≡ true
 point_holds graph r s w g test start end n rest =
     by_ends (λ v. test (node_point (with_route graph r s w) v) ≡ true) (ends_of graph s).0.0 (ends_of graph s).1.0 n
-    (ap test (low_point graph r s w g) ∙ start) (ap test (up_point graph r s w g) ∙ end) (λ f h. ap test (other_point graph r s w n f h) ∙ rest f h)
+    (ap test (low_point graph r s w g) ∙ start) (ap test (up_point graph r s w g) ∙ end)
+    (λ f h. ap test (other_point graph r s w n f h) ∙ rest f h)
 
 -- the board that two nodes are moved on has them
 moved_first : (board : BoardParts) (a b c p q : GridPoint) → are_one c p ≡ false → are_one b p ≡ true → (are_one q p || (not (are_one c p) && (are_one b p || (not (are_one a p) && board.is_node p)))) ≡ true
@@ -172,7 +174,8 @@ not_one p q f = false_from _ (λ e. f (one_point p q e))
 nodes_then : (graph : GraphParts) (r : Routed) (s : SegId) (w : PlainWalk) → Goes graph r s w → (n : ℕ) → n < length graph.kinds
     → (with_route graph r s w).board.is_node (node_point (with_route graph r s w) n) ≡ true
 nodes_then graph r s w g n h =
-    by_ends (λ v. (with_route graph r s w).board.is_node (node_point (with_route graph r s w) v) ≡ true) (ends_of graph s).0.0 (ends_of graph s).1.0 n
+    by_ends (λ v. (with_route graph r s w).board.is_node (node_point (with_route graph r s w) v) ≡ true)
+    (ends_of graph s).0.0 (ends_of graph s).1.0 n
     (ap (with_route graph r s w).board.is_node (low_point graph r s w g)
     ∙ shown w.start (moved_first r.board (node_point r (ends_of graph s).0.0) w.start (node_point r (ends_of graph s).1.0) w.start (end_point w)
     (not_one _ _ (λ f. start_away graph r s w g (ends_of graph s).1.0 g.up_node (λ k. omega (arith, g.order, k)) (sym f))) (are_one-refl w.start)))
@@ -180,7 +183,8 @@ nodes_then graph r s w g n h =
     (λ e k.
     ap (with_route graph r s w).board.is_node (other_point graph r s w n e k)
     ∙ shown (node_point r n) (moved_none r.board (node_point r (ends_of graph s).0.0) w.start (node_point r (ends_of graph s).1.0) (node_point r n) (end_point w)
-    (not_one _ _ (λ f. k (g.underway.apart n (ends_of graph s).1.0 h g.up_node (sym f)))) (not_one _ _ (λ f. e (g.underway.apart n (ends_of graph s).0.0 h g.low_node (sym f))))
+    (not_one _ _ (λ f. k (g.underway.apart n (ends_of graph s).1.0 h g.up_node (sym f))))
+    (not_one _ _ (λ f. e (g.underway.apart n (ends_of graph s).0.0 h g.low_node (sym f))))
     (g.underway.on_board n h)))
   where
     shown : (p : GridPoint) → (are_one (end_point w) p || (not (are_one (node_point r (ends_of graph s).1.0) p) && (are_one w.start p || (not (are_one (node_point r (ends_of graph s).0.0) p) && r.board.is_node p)))) ≡ true

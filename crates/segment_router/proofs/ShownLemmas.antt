@@ -50,17 +50,21 @@ pub record IsShown (graph : GraphParts) (r : Routed) : Type 0 where
 home_at : (homes : List GridPoint) (board : BoardParts) (p d : GridPoint) → (with_nodes board homes).is_node p ≡ true → (board.is_node p ≡ true) ⊎ ((n : ℕ) × (n < length homes) × (get_or homes n d ≡ p))
 home_at [] board p d e = inl e
 home_at (q ∷ homes) board p d e = elim (home_at homes (with_node board q) p d e) [
-  | inl h ↦ elim (or_cases (are_one q p) (board.is_node p) h) [ inl k ↦ inr (0, omega arith, one_point q p k) | inr k ↦ inl k ]
+  | inl h ↦ elim (or_cases (are_one q p) (board.is_node p) h) [
+    | inl k ↦ inr (0, omega arith, one_point q p k)
+    | inr k ↦ inl k
+  ]
   | inr h ↦ inr (suc h.0, omega (arith, h.1), h.2)
 ]
 
 shown_begins : (graph : GraphParts) (placing : Placing) → IsPlacing graph placing → IsShown graph (begun graph placing)
 shown_begins graph placing fit = record {
   laid = laid_begins graph placing fit;
-  node_at = λ p e. elim (home_at placing.points (empty_board (grid_under placing)) p (record { x = pos 0; y = pos 0 }) e) [
-    | inl none ↦ absurd (false≢true none)
-    | inr h ↦ record { node = h.0; within = omega (arith, h.1, fit.one_each); there = h.2 }
-  ];
+  node_at =
+      λ p e. elim (home_at placing.points (empty_board (grid_under placing)) p (record { x = pos 0; y = pos 0 }) e) [
+        | inl none ↦ absurd (false≢true none)
+        | inr h ↦ record { node = h.0; within = omega (arith, h.1, fit.one_each); there = h.2 }
+      ];
   walk_with = λ d e. absurd (false≢true (sym (taken_stays placing.points (empty_board (grid_under placing)) d) ∙ e));
   home_clear = λ n h f. taken_stays placing.points (empty_board (grid_under placing)) (doubled (node_point (begun graph placing) n));
 }

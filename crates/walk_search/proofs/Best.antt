@@ -267,15 +267,19 @@ route_best q h r w e free = of_cost (all-at (λ v. is_no_worse q.from q.to r v �
     of_cost : is_no_worse q.from q.to r short.walk ≡ true → (total_of q.from q.to short.walk < total_of q.from q.to w) ⊎ (short.walk ≡ w) → is_no_worse q.from q.to r w ≡ true
     of_cost k (inl less) =
         head_less (total_of q.from q.to r) (total_of q.from q.to w) (is_first r w)
-        (elim (by_head (total_of q.from q.to r) (total_of q.from q.to short.walk) (is_first r short.walk) k) [ inl p ↦ omega (arith, p, less) | inr p ↦ omega (arith, p.0, less) ])
+        (elim (by_head (total_of q.from q.to r) (total_of q.from q.to short.walk) (is_first r short.walk) k) [
+          | inl p ↦ omega (arith, p, less)
+          | inr p ↦ omega (arith, p.0, less)
+        ])
     of_cost k (inr same) = subst (λ (v : PlainWalk). is_no_worse q.from q.to r v ≡ true) same k
 
 -- so none costs less
 pub route_cheapest : (q : Question) → IsQuestion q → (r w : PlainWalk) → route q.board q.from q.to ≡ Some r → is_free q.board q.from q.to w ≡ true → total_of q.from q.to r ≤ total_of q.from q.to w
-route_cheapest q h r w e free = elim (by_head (total_of q.from q.to r) (total_of q.from q.to w) (is_first r w) (route_best q h r w e free)) [
-  | inl less ↦ omega (arith, less)
-  | inr tie ↦ omega (arith, tie.0)
-]
+route_cheapest q h r w e free =
+    elim (by_head (total_of q.from q.to r) (total_of q.from q.to w) (is_first r w) (route_best q h r w e free)) [
+      | inl less ↦ omega (arith, less)
+      | inr tie ↦ omega (arith, tie.0)
+    ]
 
 -- where there is no route, no walk is free
 pub no_route : (q : Question) → IsQuestion q → (w : PlainWalk) → route q.board q.from q.to ≡ None → is_free q.board q.from q.to w ≡ true → ⊥

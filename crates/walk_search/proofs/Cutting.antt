@@ -132,7 +132,8 @@ allows_all mask whole d e h = elim (or_cases (eqb mask 0) (eqb mask 255) whole) 
 ]
   where
     none : (c : Dir) → allows 0 (Some c) ≡ true → ⊥
-    none c k = false≢true (sym (of_eight (λ e. allows 0 (Some e) ≡ false) refl refl refl refl refl refl refl refl c) ∙ k)
+    none c k =
+        false≢true (sym (of_eight (λ e. allows 0 (Some e) ≡ false) refl refl refl refl refl refl refl refl c) ∙ k)
 
     all : (c : Dir) → allows 255 (Some c) ≡ true
     all = of_eight (λ c. allows 255 (Some c) ≡ true) refl refl refl refl refl refl refl refl

@@ -147,7 +147,8 @@ start_reached : (q : Question) (points : List GridPoint) → AreReached q points
 start_reached q points r l m c move =
     let seat = seat_of q l m c move in
     ap (λ (y : Spot). is_among points y.at) seat.lands
-    ∙ r.starts (start_at q l) (stands_among (start_at q l) (starts_of q) (place_stands (starts_of q) l q.from.at seat.below))
+    ∙ r.starts (start_at q l)
+    (stands_among (start_at q l) (starts_of q) (place_stands (starts_of q) l q.from.at seat.below))
 
 -- so from one of the points no walk comes to an end
 shut_in_at : (q : Question) → IsQuestion q → (points : List GridPoint) → AreReached q points (length points) → list_any (is_among points) (ends_of q) ≡ false →

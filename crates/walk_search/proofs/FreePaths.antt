@@ -37,10 +37,12 @@ pub onward_of_path : (q : Question) → IsQuestion q → (n : ℕ) (s : Spot) (l
 onward_of_path q h n s l [] k e (to, c, rest, move, goal, sum) =
     let step = step_of q n l to c move s e in
     let g = goal_parts q to rest goal in
-    let same : g.0 ≡ record { at = step_from s.at (direction l); arrival = l; group = s.group } = some_same g.0 move.landing (sym g.1.spot ∙ landed q h n l to c move) ∙ step.lands in
+    let same : g.0 ≡ record { at = step_from s.at (direction l); arrival = l; group = s.group } =
+    some_same g.0 move.landing (sym g.1.spot ∙ landed q h n l to c move) ∙ step.lands in
     let ends : may_end q (record { at = step_from s.at (direction l); arrival = l; group = s.group }) ≡ true = subst (λ (x : Spot). may_end q x ≡ true) same g.1.ends in
     let parts = and_parts (is_end q (step_from s.at (direction l)) s.group) (allows q.to.ports (Some (reverse_of (direction l)))) ends in
-    let seat : rest ≡ seat_cost q.to.at (step_from s.at (direction l)) = g.1.cost ∙ ap (λ (x : Spot). seat_cost q.to.at x.at) same in
+    let seat : rest ≡ seat_cost q.to.at (step_from s.at (direction l)) =
+    g.1.cost ∙ ap (λ (x : Spot). seat_cost q.to.at x.at) same in
     record {
       leaves = step.leaves;
       along = step.is_free;
@@ -53,8 +55,10 @@ onward_of_path q h n s l [] k e (to, c, rest, move, goal, sum) =
     sums a t c r z x y w = omega arith
 onward_of_path q h n s l (m ∷ ms) k e (to, c, rest, move, path, sum) =
     let step = step_of q n l to c move s e in
-    let o : IsOnward q (record { at = step_from s.at (direction l); arrival = l; group = s.group }) (direction m) (map direction ms) rest =
-    subst (λ (x : Spot). IsOnward q x (direction m) (map direction ms) rest) step.lands (onward_of_path q h to move.landing m ms rest (landed q h n l to c move) path) in
+    let o : IsOnward q (record { at = step_from s.at (direction l); arrival = l; group = s.group }) (direction m)
+    (map direction ms) rest =
+    subst (λ (x : Spot). IsOnward q x (direction m) (map direction ms) rest) step.lands
+    (onward_of_path q h to move.landing m ms rest (landed q h n l to c move) path) in
     record {
       leaves = step.leaves;
       along = (step.is_free, sym (passes q (record { at = step_from s.at (direction l); arrival = l; group = s.group }) (direction m) step.below) ∙ o.leaves, o.along);

@@ -61,7 +61,8 @@ clear_start board from to w among = elim (cases_Bool from.is_free) [
 clear_end : (board : BoardParts) (from to : End) (w : PlainWalk) → is_among (seats_of board to) (end_point w) ≡ true → clear_of board from to w (doubled (end_point w)) ≡ true
 clear_end board from to w among = elim (cases_Bool to.is_free) [
   | inl free ↦ clear_where board from to w (doubled (end_point w)) (free_clear board to (end_point w) free among)
-  | inr settled ↦ or_right (not (board.is_taken (doubled (end_point w)))) (is_settled_end from to w (doubled (end_point w)))
+  | inr settled ↦ or_right (not (board.is_taken (doubled (end_point w))))
+      (is_settled_end from to w (doubled (end_point w)))
       (or_right (not from.is_free && are_one (doubled w.start) (doubled (end_point w))) (not to.is_free && are_one (doubled (end_point w)) (doubled (end_point w)))
       (and_from (not to.is_free) (are_one (doubled (end_point w)) (doubled (end_point w))) (not_from_false to.is_free settled) (one_same (doubled (end_point w)))))
 ]
@@ -117,10 +118,11 @@ middle_clear board from to w r e h = elim (or_cases (not (board.is_taken (step_f
 
 point_clear : (q : Question) → IsQuestion q → (w : PlainWalk) → is_among (starts_of q) w.start ≡ true → is_among (ends_of q) (end_point w) ≡ true → (r : GridPoint) → q.board.is_node r ≡ false →
     clear_of q.board q.from q.to w (doubled r) ≡ true → q.board.is_taken (doubled r) ≡ false
-point_clear q h w starts ends r no_node e = elim (or_cases (not (q.board.is_taken (doubled r))) (is_settled_end q.from q.to w (doubled r)) e) [
-  | inl k ↦ not-true (q.board.is_taken (doubled r)) k
-  | inr k ↦ of_end (settled_cases q.from q.to w (doubled r) k)
-]
+point_clear q h w starts ends r no_node e =
+    elim (or_cases (not (q.board.is_taken (doubled r))) (is_settled_end q.from q.to w (doubled r)) e) [
+      | inl k ↦ not-true (q.board.is_taken (doubled r)) k
+      | inr k ↦ of_end (settled_cases q.from q.to w (doubled r) k)
+    ]
   where
     of_end : ((q.from.is_free ≡ false) × (doubled w.start ≡ doubled r)) ⊎ ((q.to.is_free ≡ false) × (doubled (end_point w) ≡ doubled r)) → q.board.is_taken (doubled r) ≡ false
     of_end (inl m) =
@@ -186,7 +188,8 @@ parts_of_free q h start d ds free =
 pub never_still : (q : Question) (start : GridPoint) → is_free q.board q.from q.to (record { start = start; steps = [] }) ≡ true → ⊥
 never_still q start free =
     let w : PlainWalk = record { start = start; steps = [] } in
-    false≢true (and_parts _ (allows q.from.ports (start_port w)) (and_parts _ (allows q.to.ports (end_port w)) free).0).1
+    false≢true
+    (and_parts _ (allows q.from.ports (start_port w)) (and_parts _ (allows q.to.ports (end_port w)) free).0).1
 
 -- the group of a seat
 group_back : (i : ℕ) → i + 1 - 1 ≡ i
@@ -205,7 +208,8 @@ start_group q i below = of_test (is_among (ends_of q) (start_at q i)) refl
         (and_from (leb (i + 1) (length (starts_of q))) (are_one (start_at q (i + 1 - 1)) (start_at q i)) (le-leb (i + 1) (length (starts_of q)) (omega arith))
         (ap (λ n. are_one (start_at q n) (start_at q i)) (group_back i) ∙ one_same (start_at q i))) e
     of_test false e =
-        and_from (is_among (starts_of q) (start_at q i)) (not (is_among (ends_of q) (start_at q i))) (stands_among (start_at q i) (starts_of q) (place_stands (starts_of q) i q.from.at below))
+        and_from (is_among (starts_of q) (start_at q i)) (not (is_among (ends_of q) (start_at q i)))
+        (stands_among (start_at q i) (starts_of q) (place_stands (starts_of q) i q.from.at below))
         (not_from_false (is_among (ends_of q) (start_at q i)) e)
 
 pub end_group : (q : Question) (i : ℕ) (p : GridPoint) → i < length (starts_of q) → is_among (ends_of q) p ≡ true → are_one (start_at q i) p ≡ false → is_end q p (group_of q i) ≡ true
@@ -243,8 +247,10 @@ pub record IsPathWalk (q : Question) (i l : ℕ) (ls : List ℕ) (k : ℕ) : Typ
 pub walk_of_path : (q : Question) → IsQuestion q → (i l : ℕ) (ls : List ℕ) (k : ℕ) → PathTo (space_of q) (spots_of q.board.bounds) (i ∷ l ∷ ls) k → IsPathWalk q i l ls k
 walk_of_path q h i l ls k (to, c, rest, move, path, sum) =
     let seat = seat_of q i to c move in
-    let o : IsOnward q (record { at = start_at q i; arrival = 8; group = group_of q i }) (direction l) (map direction ls) rest =
-    subst (λ (x : Spot). IsOnward q x (direction l) (map direction ls) rest) seat.lands (onward_of_path q h to move.landing l ls rest (landed q h (spots_of q.board.bounds) i to c move) path) in
+    let o : IsOnward q (record { at = start_at q i; arrival = 8; group = group_of q i }) (direction l)
+    (map direction ls) rest =
+    subst (λ (x : Spot). IsOnward q x (direction l) (map direction ls) rest) seat.lands
+    (onward_of_path q h to move.landing l ls rest (landed q h (spots_of q.board.bounds) i to c move) path) in
     let leaves = and_parts (is_start q (start_at q i) (group_of q i)) (allows q.from.ports (Some (direction l))) o.leaves in
     let ends = end_group_parts q i (after (start_at q i) (direction l ∷ map direction ls)) o.ends in
     record {
@@ -259,7 +265,9 @@ walk_of_path q h i l ls k (to, c, rest, move, path, sum) =
             leaves = leaves.1;
             comes = o.port;
           });
-      cost = sums (seat_cost q.from.at (start_at q i)) c rest (way_cost (direction l ∷ map direction ls)) (seat_cost q.to.at (after (start_at q i) (direction l ∷ map direction ls))) seat.cost o.cost sum;
+      cost =
+          sums (seat_cost q.from.at (start_at q i)) c rest (way_cost (direction l ∷ map direction ls))
+          (seat_cost q.to.at (after (start_at q i) (direction l ∷ map direction ls))) seat.cost o.cost sum;
     }
   where
     sums : (a c r w z : ℕ) → c ≡ a + 1 → r ≡ 0 + w + z → k ≡ c + r → k ≡ a + w + z + 1

@@ -85,7 +85,8 @@ start_cheap q i below = all_index (λ p. seat_cost q.from.at p ≤ 20) (starts_o
 pub group_small : (q : Question) (i : ℕ) → i < length (starts_of q) → group_of q i < 10
 group_small q i below =
     let few : length (starts_of q) ≤ 9 = seats_few q.board q.from in
-    cond_both (is_among (ends_of q) (start_at q i)) (i + 1) 0 (λ n. n < 10) (λ e. omega (arith, few, below)) (λ e. omega arith)
+    cond_both (is_among (ends_of q) (start_at q i)) (i + 1) 0 (λ n. n < 10) (λ e. omega (arith, few, below))
+    (λ e. omega arith)
 
 pub chosen_spot : (q : Question) → IsQuestion q → (i : ℕ) (landing : Spot) (c : ℕ) → IsChosen q i landing c → IsSpot q.board.bounds landing
 chosen_spot q h i landing c m =
@@ -98,14 +99,17 @@ stepped_spot q s l landing c h m =
     (record { inside = (and_parts (is_inside q.board (step_from s.at (direction l))) _ parts.1).0; arrival = omega (arith, m.below); group = h.group })
 
 pub turn_from_small : (a : ℕ) (d : Dir) → turn_from a d ≤ 4
-turn_from_small a d = cond_both (eqb a 8) 0 (turn_between (direction a) d) (λ n. n ≤ 4) (λ e. omega arith) (λ e. turn_small (direction a) d)
+turn_from_small a d =
+    cond_both (eqb a 8) 0 (turn_between (direction a) d) (λ n. n ≤ 4) (λ e. omega arith)
+    (λ e. turn_small (direction a) d)
 
 -- ---- what it costs at least to come to a spot rises by no more than a move costs
 
 seat_first : (q : Question) (p : GridPoint) → ahead_at q p 8 ≤ seat_cost q.from.at p + 1
 unfolding ahead_at seat_ahead
 seat_first q p =
-    cond_both (are_one q.from.at p) (reach_of q.from.at p) (reach_of q.from.at p + 1) (λ n. n ≤ seat_cost q.from.at p + 1)
+    cond_both (are_one q.from.at p) (reach_of q.from.at p) (reach_of q.from.at p + 1)
+    (λ n. n ≤ seat_cost q.from.at p + 1)
     (λ e. omega (arith, reach_seat q.from.at p)) (λ e. omega (arith, reach_seat q.from.at p))
 
 -- by an allowed port from a seat no turn is due but where that is not the home
@@ -206,17 +210,21 @@ moved q h a l c landing below goes = elim (move_cases q (spot_of q.board.bounds 
         }
 
 -- where a move leads to, and what it is: from a spot a step, and from before every spot the choice of a seat
-pub landed : (q : Question) → IsQuestion q → (n l m c : ℕ) (move : IsMove q n l m c) → spot_of q.board.bounds m ≡ Some move.landing
+pub landed : (q : Question) → IsQuestion q → (n l m c : ℕ) (move : IsMove q n l m c)
+    → spot_of q.board.bounds m ≡ Some move.landing
 landed q h n l m c move =
     ap (spot_of q.board.bounds) move.lands
     ∙ spot_of-number q.board.bounds move.landing (moved q h n l c move.landing move.from_spot move.goes).spot
 
-pub step_of : (q : Question) (n l m c : ℕ) (move : IsMove q n l m c) (s : Spot) → spot_of q.board.bounds n ≡ Some s → IsStepped q s l move.landing c
-step_of q n l m c move s e = stepped_parts q s l move.landing c (sym (ap (λ (o : Option Spot). move_of q o l) e) ∙ move.goes)
+pub step_of : (q : Question) (n l m c : ℕ) (move : IsMove q n l m c) (s : Spot) → spot_of q.board.bounds n ≡ Some s
+    → IsStepped q s l move.landing c
+step_of q n l m c move s e =
+    stepped_parts q s l move.landing c (sym (ap (λ (o : Option Spot). move_of q o l) e) ∙ move.goes)
 
 pub seat_of : (q : Question) (l m c : ℕ) (move : IsMove q (spots_of q.board.bounds) l m c) → IsChosen q l move.landing c
 seat_of q l m c move =
-    chosen_parts q l move.landing c (sym (ap (λ (o : Option Spot). move_of q o l) (spot_of-none q.board.bounds)) ∙ move.goes)
+    chosen_parts q l move.landing c
+    (sym (ap (λ (o : Option Spot). move_of q o l) (spot_of-none q.board.bounds)) ∙ move.goes)
 
 -- where a walk may end
 pub record IsGoal (q : Question) (n k : ℕ) (s : Spot) : Type 0 where
@@ -280,5 +288,6 @@ is_space q h = record {
 
     rises : (a l s c : ℕ) (m : IsMove q a l s c) → spot_ahead q (spot_of q.board.bounds s) ≤ spot_ahead q (spot_of q.board.bounds a) + c
     rises a l s c m =
-        subst (λ (o : Option Spot). spot_ahead q o ≤ spot_ahead q (spot_of q.board.bounds a) + c) (sym (landed q h a l s c m))
+        subst (λ (o : Option Spot). spot_ahead q o ≤ spot_ahead q (spot_of q.board.bounds a) + c)
+        (sym (landed q h a l s c m))
         (moved q h a l c m.landing m.from_spot m.goes).rises

@@ -140,14 +140,17 @@ seats_offer q h n cost s of arrival =
             )
         of_test false e = tt
 
-landing_is : (q : Question) → IsQuestion q → (a l n c : ℕ) (m : IsMove q a l n c) (s : Spot) → IsSpotOf q.board.bounds n s → m.landing ≡ s
+landing_is : (q : Question) → IsQuestion q → (a l n c : ℕ) (m : IsMove q a l n c) (s : Spot)
+    → IsSpotOf q.board.bounds n s → m.landing ≡ s
 landing_is q h a l n c m s of =
-    some_same m.landing s (sym (landed q h a l n c m) ∙ ap (spot_of q.board.bounds) of.number ∙ spot_of-number q.board.bounds s of.spot)
+    some_same m.landing s
+    (sym (landed q h a l n c m) ∙ ap (spot_of q.board.bounds) of.number ∙ spot_of-number q.board.bounds s of.spot)
 
 seats_offered : (q : Question) → IsQuestion q → (n cost : ℕ) (s : Spot) → IsSpotOf q.board.bounds n s → s.arrival ≡ 8 → (a l c : ℕ) → IsMove q a l n c → StandsIn (a, cost + c) (seat_offers q s cost (length (starts_of q)))
 seats_offered q h n cost s of arrival a l c m = elim (move_cases q (spot_of q.board.bounds a) l m.landing c m.goes) [
   | inl k ↦ of_chosen k.0 k.1
-  | inr k ↦ (let same : 8 ≡ l = sym arrival ∙ ap (λ (x : Spot). x.arrival) (sym is ∙ k.2.lands) in absurd (omega (arith, same, k.2.below)))
+  | inr k ↦ (let same : 8 ≡ l = sym arrival ∙ ap (λ (x : Spot). x.arrival) (sym is ∙ k.2.lands) in
+      absurd (omega (arith, same, k.2.below)))
 ]
   where
     is : m.landing ≡ s
@@ -219,7 +222,8 @@ backs_offer q h n cost s of small = of_open (is_open q.board (back_of s) (came s
 backs_offered : (q : Question) → IsQuestion q → (n cost : ℕ) (s : Spot) → IsSpotOf q.board.bounds n s → s.arrival < 8 → (a l c : ℕ) → IsMove q a l n c →
     StandsIn (a, cost + c) (back_offers q (back_of s) s.group (came s) cost)
 backs_offered q h n cost s of small a l c m = elim (move_cases q (spot_of q.board.bounds a) l m.landing c m.goes) [
-  | inl k ↦ (let same : s.arrival ≡ 8 = ap (λ (x : Spot). x.arrival) (sym is ∙ k.1.lands) in absurd (omega (arith, same, small)))
+  | inl k ↦ (let same : s.arrival ≡ 8 = ap (λ (x : Spot). x.arrival) (sym is ∙ k.1.lands) in
+      absurd (omega (arith, same, small)))
   | inr k ↦ of_stepped k.0 k.1 k.2
 ]
   where

@@ -1,7 +1,7 @@
 -- The walk of the least path is the route.
-use Rattle.std.proofs.Common.{◌≡◌, refl, sym, ◌∙◌, ap, ap₂, subst, ℕ, zero, suc, ◌+◌, ◌<◌, ◌≤◌, ◌⊎◌, inl, inr, Bool, true, cond, nat_lt, ◌==◌, ◌&&◌, ◌||◌, List, [], ◌∷◌, map, filter, length, get_or, Option, Some, None, ℤ, pos, negsuc, ◌+ℤ◌, ◌<ℤ◌, arith}
+use Rattle.std.proofs.Common.{◌≡◌, refl, sym, ◌∙◌, ap, ap₂, subst, ℕ, zero, suc, ◌+◌, ◌<◌, ◌≤◌, ◌⊎◌, inl, inr, Bool, true, cond, nat_lt, ◌==◌, ◌&&◌, ◌||◌, List, [], ◌∷◌, map, filter, length, get_or, Option, Some, None, ℤ, ◌+ℤ◌, arith}
 use Rattle.std.specs.Prelude.{int_lt}
-use Rattle.std.specs.List.{flat_map}
+use Rattle.std.specs.List.{flat_map, list_all}
 use Rattle.std.specs.Ordering.{int_eq}
 use Rattle.std.proofs.lemmas.Int.{ints}
 use Rattle.std.proofs.lemmas.List.{length-map}
@@ -41,71 +41,37 @@ rises_filtered : (test : GridPoint → Bool) (xs : List GridPoint) → Rises xs 
 rises_filtered test [] rise = tt
 rises_filtered test (x ∷ xs) rise =
     let rest = rises_filtered test xs rise.1 in
-    cond_both (test x) (x ∷ filter test xs) (filter test xs) Rises (λ e. (all_filter test (λ r. is_lower x r ≡ true) xs rise.0, rest)) (λ e. rest)
+    cond_both (test x) (x ∷ filter test xs) (filter test xs) Rises
+    (λ e. (all_filter test (λ r. is_lower x r ≡ true) xs rise.0, rest)) (λ e. rest)
 
-less_after : (z x y : ℤ) → x <ℤ y → int_lt (z +ℤ x) (z +ℤ y) ≡ true
-less_after z x y k = grind (arith, ints)
-
-lower_row : (home : GridPoint) (a b c d : ℤ) → b <ℤ d → is_lower (shifted home (a, b)) (shifted home (c, d)) ≡ true
-lower_row home a b c d h = or_left (int_lt (home.y +ℤ b) (home.y +ℤ d)) (int_eq (home.y +ℤ b) (home.y +ℤ d) && int_lt (home.x +ℤ a) (home.x +ℤ c)) (less_after home.y b d h)
-
-lower_beside : (home : GridPoint) (a b c : ℤ) → a <ℤ c → is_lower (shifted home (a, b)) (shifted home (c, b)) ≡ true
-lower_beside home a b c h =
-    or_right (int_lt (home.y +ℤ b) (home.y +ℤ b)) (int_eq (home.y +ℤ b) (home.y +ℤ b) && int_lt (home.x +ℤ a) (home.x +ℤ c))
-    (and_from (int_eq (home.y +ℤ b) (home.y +ℤ b)) (int_lt (home.x +ℤ a) (home.x +ℤ c)) (same (home.y +ℤ b)) (less_after home.x a c h))
+-- shifts rise as the points do to which they lead
+lower_shift : (home : GridPoint) (s t : ℤ × ℤ) → (int_lt s.1 t.1 || (int_eq s.1 t.1 && int_lt s.0 t.0)) ≡ true
+    → is_lower (shifted home s) (shifted home t) ≡ true
+lower_shift home s t e = moved home.x home.y s.0 s.1 t.0 t.1 e
   where
-    same : (z : ℤ) → int_eq z z ≡ true
-    same z = grind (arith, ints)
+    moved : (x y a b c d : ℤ) → (int_lt b d || (int_eq b d && int_lt a c)) ≡ true
+        → (int_lt (y +ℤ b) (y +ℤ d) || (int_eq (y +ℤ b) (y +ℤ d) && int_lt (x +ℤ a) (x +ℤ c))) ≡ true
+    moved x y a b c d h = grind (arith, ints)
 
-low_mid : negsuc 1 <ℤ pos 0
-low_mid = omega (arith, ints)
+abbrev are_rising : List (ℤ × ℤ) → Bool
+are_rising [] = true
+are_rising (s ∷ ss) = list_all (λ (t : ℤ × ℤ). int_lt s.1 t.1 || (int_eq s.1 t.1 && int_lt s.0 t.0)) ss && are_rising ss
 
-low_high : negsuc 1 <ℤ pos 2
-low_high = omega (arith, ints)
+all_lower : (home : GridPoint) (s : ℤ × ℤ) (ss : List (ℤ × ℤ))
+    → list_all (λ (t : ℤ × ℤ). int_lt s.1 t.1 || (int_eq s.1 t.1 && int_lt s.0 t.0)) ss ≡ true
+    → AllAre (λ r. is_lower (shifted home s) r ≡ true) (map (shifted home) ss)
+all_lower home s [] e = tt
+all_lower home s (t ∷ ss) e = let parts = and_parts _ _ e in (lower_shift home s t parts.0, all_lower home s ss parts.1)
 
-mid_high : pos 0 <ℤ pos 2
-mid_high = omega (arith, ints)
-
-shifts_rise : (home : GridPoint) → Rises (map (shifted home) shifts)
-shifts_rise home = (
-  (lower_beside home (negsuc 1) (negsuc 1) (pos 0) low_mid, (lower_beside home (negsuc 1) (negsuc 1) (pos 2) low_high, (row1 (negsuc 1) (negsuc 1), (row1 (negsuc 1) (pos 0), (row1 (negsuc 1) (pos 2), (row2 (negsuc 1) (negsuc 1), (row2 (negsuc 1) (pos 0), (row2 (negsuc 1) (pos 2), tt)))))))),
-  (
-    (lower_beside home (pos 0) (negsuc 1) (pos 2) mid_high, (row1 (pos 0) (negsuc 1), (row1 (pos 0) (pos 0), (row1 (pos 0) (pos 2), (row2 (pos 0) (negsuc 1), (row2 (pos 0) (pos 0), (row2 (pos 0) (pos 2), tt))))))),
-    (
-      (row1 (pos 2) (negsuc 1), (row1 (pos 2) (pos 0), (row1 (pos 2) (pos 2), (row2 (pos 2) (negsuc 1), (row2 (pos 2) (pos 0), (row2 (pos 2) (pos 2), tt)))))),
-      (
-        (lower_beside home (negsuc 1) (pos 0) (pos 0) low_mid, (lower_beside home (negsuc 1) (pos 0) (pos 2) low_high, (row3 (negsuc 1) (negsuc 1), (row3 (negsuc 1) (pos 0), (row3 (negsuc 1) (pos 2), tt))))),
-        (
-          (lower_beside home (pos 0) (pos 0) (pos 2) mid_high, (row3 (pos 0) (negsuc 1), (row3 (pos 0) (pos 0), (row3 (pos 0) (pos 2), tt)))),
-          (
-            (row3 (pos 2) (negsuc 1), (row3 (pos 2) (pos 0), (row3 (pos 2) (pos 2), tt))),
-            (
-              (lower_beside home (negsuc 1) (pos 2) (pos 0) low_mid, (lower_beside home (negsuc 1) (pos 2) (pos 2) low_high, tt)),
-              (
-                (lower_beside home (pos 0) (pos 2) (pos 2) mid_high, tt),
-                (tt, tt),
-              ),
-            ),
-          ),
-        ),
-      ),
-    ),
-  ),
-)
-  where
-    row1 : (a c : ℤ) → is_lower (shifted home (a, negsuc 1)) (shifted home (c, pos 0)) ≡ true
-    row1 a c = lower_row home a (negsuc 1) c (pos 0) low_mid
-
-    row2 : (a c : ℤ) → is_lower (shifted home (a, negsuc 1)) (shifted home (c, pos 2)) ≡ true
-    row2 a c = lower_row home a (negsuc 1) c (pos 2) low_high
-
-    row3 : (a c : ℤ) → is_lower (shifted home (a, pos 0)) (shifted home (c, pos 2)) ≡ true
-    row3 a c = lower_row home a (pos 0) c (pos 2) mid_high
+shifts_rise : (home : GridPoint) (ss : List (ℤ × ℤ)) → are_rising ss ≡ true → Rises (map (shifted home) ss)
+shifts_rise home [] e = tt
+shifts_rise home (s ∷ ss) e = let parts = and_parts _ _ e in (all_lower home s ss parts.0, shifts_rise home ss parts.1)
 
 seats_rise : (board : BoardParts) (end : End) → Rises (seats_of board end)
 seats_rise board end =
     cond_both end.is_free (filter (is_free_seat board end.at) (map (shifted end.at) shifts)) (end.at ∷ []) Rises
-    (λ e. rises_filtered (is_free_seat board end.at) (map (shifted end.at) shifts) (shifts_rise end.at)) (λ e. (tt, tt))
+    (λ e. rises_filtered (is_free_seat board end.at) (map (shifted end.at) shifts) (shifts_rise end.at shifts refl))
+    (λ e. (tt, tt))
 
 rises_at : (xs : List GridPoint) (i j : ℕ) (d : GridPoint) → Rises xs → i < j → j < length xs → is_lower (get_or xs i d) (get_or xs j d) ≡ true
 rises_at [] i j d rise h k = absurd (omega arith)
@@ -184,7 +150,9 @@ better q h i l ls k below steps least v free = record { no_worse = no_worse (cas
         (ap (λ ns. is_not_after ns (map number_of v.steps)) numbers ∙ not_after (l ∷ ls) (map number_of v.steps) tie.1))
 
     no_worse : (mine ≡ other) ⊎ ((mine < other) ⊎ (other < mine)) → is_no_worse q.from q.to w v ≡ true
-    no_worse (inl e) = or_right (nat_lt mine other) ((mine == other) && is_first w v) (and_from (mine == other) (is_first w v) (eq-eqb mine other e) (is_first_of (first e)))
+    no_worse (inl e) =
+        or_right (nat_lt mine other) ((mine == other) && is_first w v)
+        (and_from (mine == other) (is_first w v) (eq-eqb mine other e) (is_first_of (first e)))
     no_worse (inr (inl less)) = or_left (nat_lt mine other) ((mine == other) && is_first w v) (lt-ltb mine other less)
     no_worse (inr (inr more)) = absurd (omega (arith, at_most, more))
 
@@ -209,7 +177,9 @@ better q h i l ls k below steps least v free = record { no_worse = no_worse (cas
 
 -- and is one of the free walks that are looked at
 pub a_direction : (d : Dir) → StandsIn d directions
-a_direction d = subst (λ (e : Dir). StandsIn e directions) (direction-number_of d) (place_stands directions (number_of d) dir.N (number_below d))
+a_direction d =
+    subst (λ (e : Dir). StandsIn e directions) (direction-number_of d)
+    (place_stands directions (number_of d) dir.N (number_below d))
 
 in_lists : (n : ℕ) (ds : List Dir) → length ds ≤ n → StandsIn ds (lists_upto n)
 in_lists zero [] short = inl refl

@@ -35,7 +35,10 @@ all_index P (x ∷ xs) all (suc i) d below = all_index P xs all.1 i d (omega ari
 pub among_stands : (p : GridPoint) (ps : List GridPoint) → is_among ps p ≡ true → StandsIn p ps
 among_stands p [] e = let no : ⊥ = cc in absurd no
 among_stands p (q ∷ qs) e =
-    elim (or_cases (are_one p q) (is_among qs p) e) [ inl h ↦ inl (sym (one_true p q h)) | inr h ↦ inr (among_stands p qs h) ]
+    elim (or_cases (are_one p q) (is_among qs p) e) [
+      | inl h ↦ inl (sym (one_true p q h))
+      | inr h ↦ inr (among_stands p qs h)
+    ]
 
 pub stands_among : (p : GridPoint) (ps : List GridPoint) → StandsIn p ps → is_among ps p ≡ true
 stands_among p [] h = absurd h
@@ -104,7 +107,8 @@ seats_cheap board end = of_free end.is_free
 
 pub seats_few : (board : BoardParts) (end : End) → length (seats_of board end) ≤ 9
 seats_few board end =
-    cond_both end.is_free (filter (is_free_seat board end.at) (map (shifted end.at) shifts)) (end.at ∷ []) (λ ps. length ps ≤ 9)
+    cond_both end.is_free (filter (is_free_seat board end.at) (map (shifted end.at) shifts)) (end.at ∷ [])
+    (λ ps. length ps ≤ 9)
     (λ e. subst (λ n. n ≤ 9) (sym (length-filter (is_free_seat board end.at) (map (shifted end.at) shifts)))
     (count_by-le-length (is_free_seat board end.at) (map (shifted end.at) shifts))) (λ e. omega arith)
 

@@ -11,7 +11,8 @@ use Rattle.walk_search.specs.Moves.{direction}
 use Rattle.octi_grid.proofs.CostLemmas.{number_small}
 
 -- what holds of each of the eight directions
-pub of_eight : (P : Dir → Type 0) → P dir.N → P dir.NE → P dir.E → P dir.SE → P dir.S → P dir.SW → P dir.W → P dir.NW → (d : Dir) → P d
+pub of_eight : (P : Dir → Type 0) → P dir.N → P dir.NE → P dir.E → P dir.SE → P dir.S → P dir.SW → P dir.W → P dir.NW
+    → (d : Dir) → P d
 of_eight P n ne e se s sw w nw dir.N = n
 of_eight P n ne e se s sw w nw dir.NE = ne
 of_eight P n ne e se s sw w nw dir.E = e

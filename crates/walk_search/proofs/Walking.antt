@@ -104,8 +104,11 @@ steps_of_path q h n s [] k e p = tt
 steps_of_path q h n s (l ∷ ls) k e (to, c, rest, move, path, sum) =
     let step = step_of q n l to c move s e in
     let free = (and_parts (is_inside q.board s.at) _ step.is_free).1 in
-    let inside : is_inside q.board (step_from s.at (direction l)) ≡ true = (and_parts (is_inside q.board (step_from s.at (direction l))) _ free).0 in
-    let later : AreSteps q (step_from s.at (direction l)) ls = subst (λ (x : Spot). AreSteps q x.at ls) step.lands (steps_of_path q h to move.landing ls rest (landed q h n l to c move) path) in
+    let inside : is_inside q.board (step_from s.at (direction l)) ≡ true =
+    (and_parts (is_inside q.board (step_from s.at (direction l))) _ free).0 in
+    let later : AreSteps q (step_from s.at (direction l)) ls =
+    subst (λ (x : Spot). AreSteps q x.at ls) step.lands
+    (steps_of_path q h to move.landing ls rest (landed q h n l to c move) path) in
     (step.below, inside, later)
 
 -- what the labels of a path are
@@ -177,7 +180,8 @@ if_none (Some x) P p = tt
 pub others_of : (labels : List ℕ) (seat first : ℕ) (others : List ℕ) → labels ≡ seat ∷ first ∷ others → take (length labels - 2) (drop 2 labels) ≡ others
 others_of labels seat first others e =
     let many : length labels ≡ length (seat ∷ first ∷ others) = ap length e in
-    ap (λ (ls : List ℕ). take (length labels - 2) (drop 2 ls)) e ∙ take_all (length labels - 2) others (omega (arith, many))
+    ap (λ (ls : List ℕ). take (length labels - 2) (drop 2 ls)) e ∙ take_all (length labels - 2) others
+    (omega (arith, many))
 
 pub after_last : (p : GridPoint) (ds : List Dir) (d : Dir) → after p (ds ++ d ∷ []) ≡ step_from (after p ds) d
 after_last p ds d = after-append p ds (d ∷ [])

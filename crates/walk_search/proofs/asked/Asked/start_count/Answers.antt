@@ -5,8 +5,10 @@ use Rattle.walk_search.proofs.asked.Asked.start_count.Goals as goal
 
 pub overflow_cast-result : goal.overflow_cast-result
 overflow_cast-result c =
-    let a = c.args.self.now in omega (arith, c.len.ensures, kept_few (parts_of a.board.now) a.from a.starts.items a.asked.starts_are)
+    let a = c.args.self.now in
+    omega (arith, c.len.ensures, kept_few (parts_of a.board.now) a.from a.starts.items a.asked.starts_are)
 
 pub returns-clause-within : goal.returns-clause-within
 returns-clause-within c =
-    let a = c.args.self.now in omega (arith, c.len.ensures, kept_few (parts_of a.board.now) a.from a.starts.items a.asked.starts_are)
+    let a = c.args.self.now in
+    omega (arith, c.len.ensures, kept_few (parts_of a.board.now) a.from a.starts.items a.asked.starts_are)
