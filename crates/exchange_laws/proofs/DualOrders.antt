@@ -1,5 +1,5 @@
 -- What dual prices find in a part by itself are orders of its segments, whatever the part is.
-use Rattle.std.proofs.Common.{◌≡◌, ℕ, zero, suc, ◌+◌, Bool, true, false, cond, ◌||◌, ◌==◌, List, [], Option, Some, None}
+use Rattle.std.proofs.Common.{ℕ, zero, suc, ◌+◌, Bool, true, false, cond, ◌||◌, ◌==◌, List, [], Option, Some, None}
 use Rattle.std.specs.Prelude.{ℤ, int_lt, nat_lt}
 use Rattle.map_base.specs.declared.ids.LineId.{LineId}
 use Rattle.order_model.specs.declared.problem.ProblemParts.{ProblemParts}

@@ -1,9 +1,9 @@
 -- The line graph of a feed can be read again, and the map that is made of it is that of the feed.
-use Rattle.std.proofs.Common.{◌≡◌, ◌∙◌, ap, ap₂, sym, subst, subst₂, ℕ, ◌<◌, ◌≤◌, ◌^◌, Bool, true, false, cond, List, [], ◌∷◌, length, map, get_or, arith}
+use Rattle.std.proofs.Common.{◌≡◌, ◌∙◌, ap, ap₂, sym, subst, subst₂, ℕ, ◌<◌, ◌≤◌, Bool, true, false, cond, List, [], ◌∷◌, length, map, get_or, arith}
 use Rattle.std.specs.Prelude.{bytes_eq, All, Result, Ok}
 use Rattle.std.specs.List.{AllByRecursion as ByRecursion}
 use Rattle.std.proofs.lemmas.List.{get_or-map, length-map}
-use Rattle.std.proofs.lemmas.List.Elements.{All-from_recursion, All-get_or, All-head, All-map, All-tail, recursion_from_All}
+use Rattle.std.proofs.lemmas.List.Elements.{All-get_or, All-head, All-map, All-tail, recursion_from_All}
 use Rattle.std.proofs.lemmas.Option.{unwrap_or-slice_get}
 use Rattle.map_base.specs.declared.ids.LineId.{LineId}
 use Rattle.map_base.specs.declared.limit.Limit.{Limit}
@@ -23,13 +23,13 @@ use Rattle.graph_json.specs.declared.imported.Imported.{Imported}
 use Rattle.graph_json.specs.Again.{read_again, CanBeRead}
 use Rattle.graph_json.specs.Outcome as file
 use Rattle.graph_json.specs.Written.{graph_text, lines_listed}
-use Rattle.graph_maps.specs.Making.{if_solved, made_on, solved_map, solved_of}
+use Rattle.graph_maps.specs.Making.{if_solved, solved_map, solved_of}
 use Rattle.graph_maps.specs.Problems.{drawn_on}
 use Rattle.map_engine.specs.Making.{make_outcome, over_graph}
 use Rattle.map_engine.specs.Tables.{importance_among, importance_by, names_by, subject_of}
 use Rattle.exchange_laws.specs.Exchanged.{feed_again, made_of, AreAlike, AreColoured, IsExported}
 use Rattle.exchange_laws.proofs.MadeAgain.{made_again}
-use Rattle.exchange_laws.proofs.Numbers.{each_listed, few_listed, AreBelow}
+use Rattle.exchange_laws.proofs.Numbers.{few_listed}
 
 -- the number of a pair is one that a line may have
 abbrev HasNumber : List ℕ × ℕ → Type 0

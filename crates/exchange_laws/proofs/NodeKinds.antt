@@ -1,12 +1,12 @@
 -- Nodes that are read again are stations where they were, with the names that they had.
-use Rattle.std.proofs.Common.{◌≡◌, ◌∙◌, ap, refl, sym, subst, ℕ, zero, suc, ◌+◌, List, [], ◌∷◌, ◌++◌, length, map, get_or, arith, append_assoc, length-append}
-use Rattle.std.specs.Prelude.{Option, Some, None, slice_get, unwrap_or}
+use Rattle.std.proofs.Common.{◌≡◌, ◌∙◌, ap, refl, sym, ℕ, zero, suc, ◌+◌, List, [], ◌∷◌, ◌++◌, length, map, get_or, arith, append_assoc, length-append}
+use Rattle.std.specs.Prelude.{Option, Some, None}
 use Rattle.std.proofs.lemmas.List.{length-map}
 use Rattle.std.proofs.lemmas.Option.{unwrap_or-slice_get}
 use Rattle.graph_core.specs.declared.parts.NodeKind.{NodeKind}
 use Rattle.graph_core.specs.declared.parts.NodeKind.TheVariants.{Station, Junction}
 use Rattle.svg_writer.specs.declared.names.Names.{Names}
-use Rattle.svg_writer.specs.Picture.{kind_at, station_name}
+use Rattle.svg_writer.specs.Picture.{station_name}
 use Rattle.graph_json.specs.Again.{node_name}
 use Rattle.graph_json.specs.Limits.{names_in}
 use Rattle.graph_json.specs.References.{kinds_from}

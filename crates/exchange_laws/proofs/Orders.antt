@@ -1,8 +1,8 @@
 -- The line orders that a map has are orders of the lines of its segments.
-use Rattle.std.proofs.Common.{◌≡◌, ◌∙◌, ap, refl, sym, subst, ℕ, ◌+◌, ◌<◌, ◌≤◌, nat_le, Bool, true, false, cond, List, [], ◌∷◌, length, map, arith}
-use Rattle.std.specs.Prelude.{All, Contains, Result, Ok, Err, sum_by}
+use Rattle.std.proofs.Common.{◌≡◌, refl, sym, subst, ℕ, ◌+◌, ◌<◌, nat_le, Bool, true, false, cond, List, [], ◌∷◌, length, map, arith}
+use Rattle.std.specs.Prelude.{All, Result, Ok, Err, sum_by}
 use Rattle.std.specs.List.{AllByRecursion as ByRecursion}
-use Rattle.std.proofs.lemmas.List.Elements.{All-from_recursion, All-weaker, recursion_from_All}
+use Rattle.std.proofs.lemmas.List.Elements.{All-from_recursion, recursion_from_All}
 use Rattle.std.proofs.lemmas.List.Sorted.{All-permutation}
 use Rattle.map_base.specs.declared.ids.LineId.{LineId}
 use Rattle.map_base.specs.declared.ids.SegId.{SegId}
@@ -16,7 +16,6 @@ use Rattle.order_model.specs.Costs.{AreOrders}
 use Rattle.order_model.specs.Parts.{IsRisingPart}
 use Rattle.order_model.specs.Problems.{choices, lines_on, IsProblem}
 use Rattle.order_model.proofs.OneParts.{problem_parts_are}
-use Rattle.order_rules.specs.Lifting.{lifted_all}
 use Rattle.order_rules.specs.Untangling.{after_rules, untangling}
 use Rattle.order_rules.proofs.RuleLaws.{all_orders, all_problem}
 use Rattle.order_rules.proofs.UntanglingLaws.{untangled_ends, Ends}

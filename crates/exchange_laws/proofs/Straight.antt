@@ -1,6 +1,6 @@
 -- A graph whose nodes have other kinds, but as many of them, is straightened to the same walks.
-use Rattle.std.proofs.Common.{◌≡◌, ◌∙◌, ap, refl, ℕ, zero, suc, Bool, true, false, List, [], ◌∷◌, length, map, Option, Some, None, Result, Ok, Err}
-use Rattle.std.specs.Prelude.{◌+◌, ◌&&◌, ◌++◌, ◌==◌, nat_le, not, filter, fold, take, drop, if◌then◌else◌}
+use Rattle.std.proofs.Common.{◌≡◌, ◌∙◌, ap, refl, ℕ, zero, suc, Bool, List, [], ◌∷◌, length, map, Option, Some, None, Result, Ok, Err}
+use Rattle.std.specs.Prelude.{◌+◌, ◌&&◌, ◌++◌, nat_le, not, filter, fold, take, drop, if◌then◌else◌}
 use Rattle.std.specs.List.{flat_map, list_any, range_with_len, sum_by}
 use Rattle.map_base.specs.declared.ids.NodeId.{NodeId}
 use Rattle.map_base.specs.declared.ids.SegId.{SegId}
@@ -12,7 +12,7 @@ use Rattle.grid_board.specs.declared.bounds.Bounds.{Bounds}
 use Rattle.start_positions.specs.Cells.{cell_side}
 use Rattle.line_chains.specs.declared.chain.Chain.{Chain}
 use Rattle.line_chains.specs.declared.chain.ChainStep.{ChainStep}
-use Rattle.line_chains.specs.Chains.{chains_at, chains_by, chains_of, comes_over, far_end, is_corner, is_forward, is_reached, is_reached_from, nodes_along, nodes_of, other_of, plain_corners, ring_corners, round_of, steps_from, unless_ended, way_from, with_ring}
+use Rattle.line_chains.specs.Chains.{chains_at, chains_by, chains_of, comes_over, far_end, is_corner, is_forward, is_reached, nodes_along, nodes_of, other_of, plain_corners, ring_corners, round_of, steps_from, unless_ended, way_from, with_ring}
 use Rattle.line_chains.specs.Bends.{bend_place, bends_of, chain_bends, corners_of, is_bent, node_at, with_corner}
 use Rattle.drawing_weights.specs.Scales.{node_weight_by, walk_weight_by, weight_by, Scale}
 use Rattle.segment_router.specs.declared.fault.RouteFault.{RouteFault}
@@ -22,7 +22,7 @@ use Rattle.run_laying.specs.Laying.{all_laid, board_under, if_laid, laid, laid_a
 use Rattle.run_laying.specs.Attempts.{attempted, attempted_on, bounds_past, if_lighter, improving, may_move, point_in_attempt, walk_beside, walks_in, is_inner, without_runs, Attempt}
 use Rattle.run_laying.specs.Searches.{after_passes, attempts_alone, searched, Found}
 use Rattle.kept_walks.specs.Straightening.{moves_over, single_runs, straight_attempts, straight_scale, straightened}
-use Rattle.kept_walks.specs.Drawings.{drawing_outcome, straightened_routes, straightened_walks}
+use Rattle.kept_walks.specs.Drawings.{drawing_outcome, straightened_routes}
 use Rattle.exchange_laws.proofs.Moves.{same_routes, with_kinds}
 
 module _ (g : GraphParts) (kinds : List NodeKind) (count : length kinds ≡ length g.kinds) where

@@ -1,6 +1,6 @@
 -- Chains between the corners of a graph are runs, no two of which share a segment.
 use Rattle.std.proofs.Common.{◌≡◌, refl, sym, ◌∙◌, ap, subst, ℕ, zero, suc, ◌+◌, ◌<◌, ◌≤◌, Bool, true, false, not, cond, eqb, nat_lt, ◌&&◌, List, [], ◌∷◌, ◌++◌, length, map, get_or, ◌⊎◌, inl, inr, arith}
-use Rattle.std.proofs.lemmas.Bool.{and_parts, cases_eq, cases_lt, eq-eqb, eqb-true, ltb-true, not-true, or_cases, true≢false}
+use Rattle.std.proofs.lemmas.Bool.{and_parts, cases_eq, cases_lt, eq-eqb, eqb-true, ltb-true, not-true, or_cases, true≢false, cond_both}
 use Rattle.std.specs.List.{flat_map, list_any, range_with_len}
 use Rattle.map_base.specs.declared.ids.NodeId.{NodeId}
 use Rattle.map_base.specs.declared.ids.SegId.{SegId}
@@ -62,11 +62,11 @@ in_by graph corners n [] s i e = absurd i
 in_by graph corners n (t ∷ ss) s (inl same) e =
     subst (λ (x : SegId). In (way_from graph corners n s) (cond (is_forward graph x (way_from graph corners n x)) (way_from graph corners n x ∷ chains_by graph corners n ss) (chains_by graph corners n ss))) same
     (subst (λ b. In (way_from graph corners n s) (cond b (way_from graph corners n s ∷ chains_by graph corners n ss) (chains_by graph corners n ss))) (sym e) (inl refl))
-in_by graph corners n (t ∷ ss) s (inr i) e = by_test (is_forward graph t (way_from graph corners n t)) (in_by graph corners n ss s i e)
-  where
-    by_test : (b : Bool) → In (way_from graph corners n s) (chains_by graph corners n ss) → In (way_from graph corners n s) (cond b (way_from graph corners n t ∷ chains_by graph corners n ss) (chains_by graph corners n ss))
-    by_test true j = inr j
-    by_test false j = j
+in_by graph corners n (t ∷ ss) s (inr i) e =
+    let later = in_by graph corners n ss s i e in
+    cond_both (is_forward graph t (way_from graph corners n t))
+    (way_from graph corners n t ∷ chains_by graph corners n ss) (chains_by graph corners n ss)
+    (In (way_from graph corners n s)) (λ b. inr later) (λ b. later)
 
 pub from_range : (a k : ℕ) (m : NodeId) → In m (map (λ n. (let x : NodeId = record { 0 = n } in x)) (range_with_len a k)) → (a ≤ m.0) × (m.0 < a + k)
 from_range a zero m i = absurd i
@@ -75,11 +75,10 @@ from_range a (suc k) m (inr i) = let rest = from_range (a + 1) k m i in (omega (
 
 in_nodes : (a k : ℕ) (m : NodeId) → a ≤ m.0 → m.0 < a + k → In m (map (λ n. (let x : NodeId = record { 0 = n } in x)) (range_with_len a k))
 in_nodes a zero m low high = absurd (omega (arith, low, high))
-in_nodes a (suc k) m low high = by_first (cases_eq m.0 a) (λ below. in_nodes (a + 1) k m below (omega (arith, high)))
-  where
-    by_first : (m.0 ≡ a) ⊎ (m.0 ≡ a → ⊥) → (a + 1 ≤ m.0 → In m (map (λ n. (let x : NodeId = record { 0 = n } in x)) (range_with_len (a + 1) k))) → In m (map (λ n. (let x : NodeId = record { 0 = n } in x)) (range_with_len a (suc k)))
-    by_first (inl e) later = inl (ap (λ n. (let x : NodeId = record { 0 = n } in x)) e)
-    by_first (inr other) later = inr (later (grind (arith, low, other)))
+in_nodes a (suc k) m low high = elim (cases_eq m.0 a) [
+  | inl e ↦ inl (ap (λ n. (let x : NodeId = record { 0 = n } in x)) e)
+  | inr other ↦ inr (in_nodes (a + 1) k m (grind (arith, low, other)) (omega (arith, high)))
+]
 
 from_at : (graph : GraphParts) (corners : List Bool) (n : NodeId) (c : Chain) → In c (chains_at graph corners n) → (is_corner corners n ≡ true) × IsBy graph corners n (round_of graph n) c
 from_at graph corners n c i = by_test (is_corner corners n) refl i
@@ -241,11 +240,10 @@ module _ (graph : GraphParts) (fit : IsConsistent graph) (corners : List Bool) (
   both_beside (x ∷ xs) ys a b off = (beside_from x (xs ++ ys) each, both_beside xs ys a.1 b (λ c d i j. off c d (inr i) j))
     where
       each : (d : Chain) → In d (xs ++ ys) → (q p : ChainStep) → In q x.steps → In p d.steps → q.seg ≡ p.seg → ⊥
-      each d i q p on_x on_d same = by_place (in_append d xs ys i)
-        where
-          by_place : In d xs ⊎ In d ys → ⊥
-          by_place (inl j) = beside_off x xs a d j q p on_x on_d (ap (λ (s : SegId). s.0) (sym same))
-          by_place (inr j) = off x d (inl refl) j q p on_x on_d same
+      each d i q p on_x on_d same = elim (in_append d xs ys i) [
+        | inl j ↦ beside_off x xs a d j q p on_x on_d (ap (λ (s : SegId). s.0) (sym same))
+        | inr j ↦ off x d (inl refl) j q p on_x on_d same
+      ]
 
   by_beside : (n : NodeId) → n.0 < length graph.kinds → is_corner corners n ≡ true → (ss : List SegId) → AreSegsOnce ss → ((s : SegId) → In s ss → In s (round_of graph n)) → AreBeside (chains_by graph corners n ss)
   by_beside n node corner [] once all = tt
@@ -262,11 +260,9 @@ module _ (graph : GraphParts) (fit : IsConsistent graph) (corners : List Bool) (
           each d (t, i, (h, is, from)) q p on_c on_d same = once.0 t i (ap (λ (x : SegId). x.0) (sym is ∙ sym (share_same (way_from graph corners n s) d (first e) h q p on_c on_d same).1))
 
   at_beside : (n : NodeId) → n.0 < length graph.kinds → AreBeside (chains_at graph corners n)
-  at_beside n node = by_test (is_corner corners n) refl
-    where
-      by_test : (b : Bool) → is_corner corners n ≡ b → AreBeside (cond b (chains_by graph corners n (round_of graph n)) [])
-      by_test false e = tt
-      by_test true e = by_beside n node e (round_of graph n) (round_once graph fit n node) (λ s i. i)
+  at_beside n node =
+      cond_both (is_corner corners n) (chains_by graph corners n (round_of graph n)) [] AreBeside
+      (λ e. by_beside n node e (round_of graph n) (round_once graph fit n node) (λ s i. i)) (λ e. tt)
 
   from_beside : (a k : ℕ) → a + k ≤ length graph.kinds → AreBeside (flat_map (chains_at graph corners) (map (λ n. (let x : NodeId = record { 0 = n } in x)) (range_with_len a k)))
   from_beside a zero h = tt
@@ -308,19 +304,11 @@ module _ (graph : GraphParts) (fit : IsConsistent graph) (cell : ℕ) where
   pub corners_more : HasMoreCorners (ring_corners graph) (corners_of graph cell)
   corners_more n e = kept_corner bends few n.0 e
 
-  pub corners_has : HasCorners graph (corners_of graph cell)
-  corners_has n node e = ring_has graph fit n node (by_flag (is_corner few n) refl)
-    where
-      by_flag : (b : Bool) → is_corner few n ≡ b → is_corner few n ≡ false
-      by_flag false f = f
-      by_flag true f = absurd (true≢false (sym (corners_more n f) ∙ e))
-
   not_few : (n : NodeId) → is_corner more n ≡ false → is_corner few n ≡ false
-  not_few n e = by_flag (is_corner few n) refl
-    where
-      by_flag : (b : Bool) → is_corner few n ≡ b → is_corner few n ≡ false
-      by_flag false f = f
-      by_flag true f = absurd (true≢false (sym (corners_more n f) ∙ e))
+  not_few n e = false_from (is_corner few n) (λ f. true≢false (sym (corners_more n f) ∙ e))
+
+  pub corners_has : HasCorners graph (corners_of graph cell)
+  corners_has n node e = ring_has graph fit n node (not_few n e)
 
   -- a way to one of the fewer corners is the same between them
   same_way : (k : ℕ) (x : NodeId) (s : SegId) → is_corner few (end_after x (steps_from graph more k x s)) ≡ true → steps_from graph few k x s ≡ steps_from graph more k x s
@@ -353,16 +341,15 @@ module _ (graph : GraphParts) (fit : IsConsistent graph) (cell : ℕ) where
       end_is = ap (λ k. (let x : NodeId = record { 0 = k } in x)) (sym ring)
 
       long : 1 < length c.steps
-      long = by_order (cases_lt 1 (length c.steps))
+      long = elim (cases_lt 1 (length c.steps)) [
+        | inl less ↦ less
+        | inr short ↦ absurd (one_loop graph fit c.from c.steps w.steps w.once w.some (one_step c.steps short w.some) ring)
+      ]
         where
-          by_order : (1 < length c.steps) ⊎ (length c.steps ≤ 1) → 1 < length c.steps
-          by_order (inl less) = less
-          by_order (inr short) = absurd (one_loop graph fit c.from c.steps w.steps w.once w.some (one_step c.steps short w.some) ring)
-            where
-              one_step : (ts : List ChainStep) → length ts ≤ 1 → 0 < length ts → first_seg_of ts ≡ last_seg (first_seg_of ts) ts
-              one_step [] short some = absurd (omega (arith, some))
-              one_step (t ∷ []) short some = refl
-              one_step (t ∷ u ∷ us) short some = absurd (omega (arith, short))
+          one_step : (ts : List ChainStep) → length ts ≤ 1 → 0 < length ts → first_seg_of ts ≡ last_seg (first_seg_of ts) ts
+          one_step [] short some = absurd (omega (arith, some))
+          one_step (t ∷ []) short some = refl
+          one_step (t ∷ u ∷ us) short some = absurd (omega (arith, short))
 
       -- it would bend on the ground
       on_few : is_corner few c.from ≡ true → ⊥

@@ -1,6 +1,6 @@
 -- Corners of a line graph: what becomes one stays one; and what becomes one where chains bend lies between their ends.
-use Rattle.std.proofs.Common.{◌≡◌, refl, sym, ◌∙◌, ap, subst, ℕ, zero, suc, ◌+◌, ◌-◌, ◌<◌, ◌≤◌, Bool, true, false, not, cond, eqb, nat_lt, ◌||◌, List, [], ◌∷◌, ◌++◌, length, map, max, min, take, drop, fold, get_or, set, ◌⊎◌, inl, inr, arith, get_or-set_same, get_or-set_other, length-set, length-drop}
-use Rattle.std.proofs.lemmas.Bool.{and_from, and_parts, cases_eq, cases_lt, eq-eqb, eqb-true, lt-ltb, ltb-true, not-false, or_left, true≢false}
+use Rattle.std.proofs.Common.{◌≡◌, refl, sym, ◌∙◌, ap, subst, ℕ, zero, suc, ◌+◌, ◌-◌, ◌<◌, Bool, true, false, not, cond, eqb, nat_lt, ◌||◌, List, [], ◌∷◌, ◌++◌, length, map, max, min, take, drop, fold, get_or, set, ◌⊎◌, inl, inr, arith, get_or-set_same, get_or-set_other, length-set, length-drop}
+use Rattle.std.proofs.lemmas.Bool.{and_from, and_parts, cases_eq, cases_lt, eq-eqb, eqb-true, lt-ltb, ltb-true, not-false, or_left, true≢false, cond_both, false_from_ne_true}
 use Rattle.std.proofs.lemmas.List.{get_or-drop, get_or-map, get_or-take, length-map, length-take}
 use Rattle.std.specs.Prelude.{slice_range}
 use Rattle.std.specs.List.{flat_map}
@@ -14,16 +14,10 @@ use Rattle.line_chains.specs.Bends.{bend_place, bends_of, chain_bends, corners_o
 use Rattle.line_chains.specs.Chains.{chains_of, end_after, end_of, is_reached, nodes_along, nodes_of, plain_corners, ring_corners, round_of, with_ring}
 use Rattle.octi_grid.proofs.Members.{in_append, In}
 use Rattle.run_laying.specs.Attempts.{inner_nodes}
+use Rattle.run_laying.proofs.LaidRuns.{still_raised}
 use Rattle.kept_walks.proofs.Ways.{HasCorners}
 
 -- ---- flags that are raised
-
-still_raised : (flags : List Bool) (i m : ℕ) → get_or flags m false ≡ true → get_or (set flags i true) m false ≡ true
-still_raised [] i m e = e
-still_raised (b ∷ bs) zero zero e = refl
-still_raised (b ∷ bs) zero (suc m) e = e
-still_raised (b ∷ bs) (suc i) zero e = e
-still_raised (b ∷ bs) (suc i) (suc m) e = still_raised bs i m e
 
 pub kept_corner : (ns : List NodeId) (corners : List Bool) (n : ℕ) → get_or corners n false ≡ true → get_or (fold with_corner corners ns) n false ≡ true
 kept_corner [] corners n e = e
@@ -41,11 +35,10 @@ from_corner (p ∷ ns) corners n e = by_rest (from_corner ns (set corners p.0 tr
   where
     by_rest : (get_or (set corners p.0 true) n false ≡ true) ⊎ ((m : NodeId) × In m ns × (m.0 ≡ n)) → (get_or corners n false ≡ true) ⊎ ((m : NodeId) × In m (p ∷ ns) × (m.0 ≡ n))
     by_rest (inr (m, i, same)) = inr (m, inr i, same)
-    by_rest (inl f) = by_number (cases_eq n p.0)
-      where
-        by_number : (n ≡ p.0) ⊎ (n ≡ p.0 → ⊥) → (get_or corners n false ≡ true) ⊎ ((m : NodeId) × In m (p ∷ ns) × (m.0 ≡ n))
-        by_number (inl same) = inr (p, inl refl, sym same)
-        by_number (inr other) = inl (sym (get_or-set_other corners p.0 n true false other) ∙ f)
+    by_rest (inl f) = elim (cases_eq n p.0) [
+      | inl same ↦ inr (p, inl refl, sym same)
+      | inr other ↦ inl (sym (get_or-set_other corners p.0 n true false other) ∙ f)
+    ]
 
 many_corners : (ns : List NodeId) (corners : List Bool) → length (fold with_corner corners ns) ≡ length corners
 many_corners [] corners = refl
@@ -55,19 +48,14 @@ many_corners (m ∷ ns) corners = many_corners ns (set corners m.0 true) ∙ len
 
 kept_ring : (graph : GraphParts) (ns : List NodeId) (corners : List Bool) (n : ℕ) → get_or corners n false ≡ true → get_or (fold (with_ring graph) corners ns) n false ≡ true
 kept_ring graph [] corners n e = e
-kept_ring graph (m ∷ ns) corners n e = kept_ring graph ns (with_ring graph corners m) n (by_test (is_reached graph corners m))
-  where
-    by_test : (b : Bool) → get_or (cond b corners (set corners m.0 true)) n false ≡ true
-    by_test true = e
-    by_test false = still_raised corners m.0 n e
+kept_ring graph (m ∷ ns) corners n e = kept_ring graph ns (with_ring graph corners m) n
+    (cond_both (is_reached graph corners m) corners (set corners m.0 true) (λ flags. get_or flags n false ≡ true) (λ b. e) (λ b. still_raised corners m.0 n e))
 
 many_rings : (graph : GraphParts) (ns : List NodeId) (corners : List Bool) → length (fold (with_ring graph) corners ns) ≡ length corners
 many_rings graph [] corners = refl
-many_rings graph (m ∷ ns) corners = many_rings graph ns (with_ring graph corners m) ∙ by_test (is_reached graph corners m)
-  where
-    by_test : (b : Bool) → length (cond b corners (set corners m.0 true)) ≡ length corners
-    by_test true = refl
-    by_test false = length-set corners m.0 true
+many_rings graph (m ∷ ns) corners =
+    many_rings graph ns (with_ring graph corners m) ∙ cond_both (is_reached graph corners m) corners
+    (set corners m.0 true) (λ flags. length flags ≡ length corners) (λ b. refl) (λ b. length-set corners m.0 true)
 
 pub ring_many : (graph : GraphParts) → IsConsistent graph → length (ring_corners graph) ≡ length graph.kinds
 ring_many graph fit = many_rings graph (nodes_of graph) (plain_corners graph) ∙ length-map graph.rounds (λ (round : List SegId). not (eqb (length round) 2)) ∙ fit.round_each
@@ -76,34 +64,33 @@ pub corners_many : (graph : GraphParts) → IsConsistent graph → (cell : ℕ) 
 corners_many graph fit cell = many_corners (flat_map (chain_bends graph cell) (chains_of graph (ring_corners graph))) (ring_corners graph) ∙ ring_many graph fit
 
 pub ring_has : (graph : GraphParts) → IsConsistent graph → HasCorners graph (ring_corners graph)
-ring_has graph fit n node e = eqb-true (length (round_of graph n)) 2 (not-false (eqb (length (round_of graph n)) 2) (by_flag (get_or (plain_corners graph) n.0 false) refl))
+ring_has graph fit n node e = eqb-true (length (round_of graph n)) 2 (not-false (eqb (length (round_of graph n)) 2) (sym plain ∙ free))
   where
     plain : get_or (plain_corners graph) n.0 false ≡ not (eqb (length (round_of graph n)) 2)
     plain = get_or-map (λ (round : List SegId). not (eqb (length round) 2)) graph.rounds n.0 [] false (omega (arith, node, fit.round_each))
 
-    by_flag : (b : Bool) → get_or (plain_corners graph) n.0 false ≡ b → not (eqb (length (round_of graph n)) 2) ≡ false
-    by_flag false f = sym plain ∙ f
-    by_flag true f = absurd (true≢false (sym (kept_ring graph (nodes_of graph) (plain_corners graph) n.0 f) ∙ e))
+    free : get_or (plain_corners graph) n.0 false ≡ false
+    free =
+        false_from_ne_true (get_or (plain_corners graph) n.0 false)
+        (λ f. true≢false (sym (kept_ring graph (nodes_of graph) (plain_corners graph) n.0 f) ∙ e))
 
 -- ---- bends
 
 greatest_in : (ks : List ℕ) → 0 < length ks → In (greatest ks) ks
 greatest_in [] some = absurd (omega (arith, some))
 greatest_in (k ∷ []) some = inl (omega arith)
-greatest_in (k ∷ j ∷ js) some = by_order (cases_lt k (greatest (j ∷ js))) (greatest_in (j ∷ js) (omega arith))
-  where
-    by_order : (k < greatest (j ∷ js)) ⊎ (greatest (j ∷ js) ≤ k) → In (greatest (j ∷ js)) (j ∷ js) → In (max k (greatest (j ∷ js))) (k ∷ j ∷ js)
-    by_order (inl less) later = let is : max k (greatest (j ∷ js)) ≡ greatest (j ∷ js) = omega (arith, less) in inr (subst (λ m. In m (j ∷ js)) (sym is) later)
-    by_order (inr more) later = inl (omega (arith, more))
+greatest_in (k ∷ j ∷ js) some = elim (cases_lt k (greatest (j ∷ js))) [
+  | inl less ↦ (let is : max k (greatest (j ∷ js)) ≡ greatest (j ∷ js) = omega (arith, less) in
+      inr (subst (λ m. In m (j ∷ js)) (sym is) (greatest_in (j ∷ js) (omega arith))))
+  | inr more ↦ inl (omega (arith, more))
+]
 
 first_below : (k : ℕ) (ks : List ℕ) → In k ks → first_place k ks < length ks
 first_below k [] i = absurd i
 first_below k (j ∷ js) (inl e) = let here : first_place k (j ∷ js) ≡ 0 = ap (λ b. cond b 0 (suc (first_place k js))) (eq-eqb j k (sym e)) in omega (arith, here)
-first_below k (j ∷ js) (inr i) = by_test (eqb j k) (first_below k js i)
-  where
-    by_test : (b : Bool) → first_place k js < length js → cond b 0 (suc (first_place k js)) < suc (length js)
-    by_test true h = omega arith
-    by_test false h = omega (arith, h)
+first_below k (j ∷ js) (inr i) =
+    let h = first_below k js i in
+    cond_both (eqb j k) 0 (suc (first_place k js)) (λ n. n < suc (length js)) (λ b. omega arith) (λ b. omega (arith, h))
 
 -- a bend lies between the ends
 place_inside : (graph : GraphParts) (nodes : List NodeId) → 2 < length nodes → bend_place graph nodes + 1 < length nodes
@@ -146,17 +133,15 @@ bend_at (suc most) graph cell nodes m i = by_test (is_bent graph cell nodes) ref
       where
         long : 2 < length nodes
         long = ltb-true 2 (length nodes) (and_parts (nat_lt 2 (length nodes)) ((eqb (node_at nodes 0).0 (node_at nodes (last_place nodes)).0) || nat_lt (far_off graph cell nodes) (greatest (offs_of graph nodes))) e).0
-    by_test true e (inr j) in_front in_rear = by_part (in_append m (bends_of most graph cell front) (bends_of most graph cell rear) j)
-      where
-        by_part : In m (bends_of most graph cell front) ⊎ In m (bends_of most graph cell rear) → IsBendAt nodes m
-        by_part (inl x) =
-            let at = in_front x in
-            let many = length-take (k + 1) nodes in
-            record { place = at.place; after = at.after; before = omega (arith, at.before, many); there = sym (get_or-take (k + 1) nodes at.place (record { 0 = 0 }) (omega (arith, at.before, many))) ∙ at.there }
-        by_part (inr x) =
-            let at = in_rear x in
-            let many = length-drop k nodes in
-            record { place = k + at.place; after = omega (arith, at.after); before = omega (arith, at.before, many); there = sym (get_or-drop k nodes at.place (record { 0 = 0 })) ∙ at.there }
+    by_test true e (inr j) in_front in_rear =
+        elim (in_append m (bends_of most graph cell front) (bends_of most graph cell rear) j) [
+          | inl x ↦ (let at = in_front x in
+              let many = length-take (k + 1) nodes in
+              record { place = at.place; after = at.after; before = omega (arith, at.before, many); there = sym (get_or-take (k + 1) nodes at.place (record { 0 = 0 }) (omega (arith, at.before, many))) ∙ at.there })
+          | inr x ↦ (let at = in_rear x in
+              let many = length-drop k nodes in
+              record { place = k + at.place; after = omega (arith, at.after); before = omega (arith, at.before, many); there = sym (get_or-drop k nodes at.place (record { 0 = 0 })) ∙ at.there })
+        ]
 
 -- and among the nodes of a chain
 inner_place : (ts : List ChainStep) (i : ℕ) → i + 1 < length ts → In (node_at (map (λ (t : ChainStep). t.to) ts) i) (inner_nodes ts)

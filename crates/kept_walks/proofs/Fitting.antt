@@ -1,6 +1,6 @@
 -- The attempts of a pass fit the graph: nodes that move have all their segments on the runs that end at them.
 use Rattle.std.proofs.Common.{◌≡◌, refl, sym, ◌∙◌, ap, ap₂, subst, ℕ, zero, suc, ◌+◌, ◌*◌, ◌%◌, ◌<◌, ◌≤◌, Bool, true, false, not, cond, eqb, nat_lt, ◌&&◌, ◌||◌, List, [], ◌∷◌, ◌++◌, length, filter, map, get_or, ◌⊎◌, inl, inr, arith}
-use Rattle.std.proofs.lemmas.Bool.{cases_eq, eq-eqb, eqb-true, lt-ltb, ltb-false, ne_eqb, or_left, or_parts, or_right, true≢false}
+use Rattle.std.proofs.lemmas.Bool.{cases_eq, eq-eqb, eqb-true, lt-ltb, ltb-false, ne_eqb, or_left, or_parts, or_right, true≢false, cond_both}
 use Rattle.std.specs.List.{flat_map, list_any, range_with_len}
 use Rattle.std.specs.Prelude.{All}
 use Rattle.map_base.specs.declared.ids.NodeId.{NodeId}
@@ -16,6 +16,7 @@ use Rattle.octi_grid.specs.declared.dir.Dir.{Dir}
 use Rattle.octi_grid.proofs.Members.{any_at, any_from, from_flat_map, in_append, false_from, In}
 use Rattle.segment_router.proofs.MaskLemmas.{ends_round}
 use Rattle.segment_router.proofs.Places.{all_in, in_at}
+use Rattle.segment_router.proofs.RouteLemmas.{in_filter}
 use Rattle.run_laying.specs.Attempts.{has_node, inner_nodes, is_inner, is_on_runs, run_of, Attempt}
 use Rattle.run_laying.specs.Laying.{first_seg_of}
 use Rattle.run_laying.specs.Runs.{AreBeside, AreSteps, IsBeside, IsFitting, IsRun, MeetAlone}
@@ -227,44 +228,30 @@ node_served graph fit n node = record {
 to_filter : {X : Type 0} (test : X → Bool) (xs : List X) (x : X) → In x xs → test x ≡ true → In x (filter test xs)
 to_filter test [] x i e = absurd i
 to_filter test (y ∷ ys) x (inl same) e = subst (λ b. In x (cond b (y ∷ filter test ys) (filter test ys))) (sym (ap test (sym same) ∙ e)) (inl same)
-to_filter test (y ∷ ys) x (inr i) e = by_test (test y) (to_filter test ys x i e)
-  where
-    by_test : (b : Bool) → In x (filter test ys) → In x (cond b (y ∷ filter test ys) (filter test ys))
-    by_test true j = inr j
-    by_test false j = j
-
-from_filter : {X : Type 0} (test : X → Bool) (xs : List X) (x : X) → In x (filter test xs) → In x xs × (test x ≡ true)
-from_filter test [] x i = absurd i
-from_filter test (y ∷ ys) x i = by_test (test y) refl i (from_filter test ys x)
-  where
-    by_test : (b : Bool) → test y ≡ b → In x (cond b (y ∷ filter test ys) (filter test ys))
-        → (In x (filter test ys) → In x ys × (test x ≡ true)) → In x (y ∷ ys) × (test x ≡ true)
-    by_test true e (inl same) later = (inl same, ap test same ∙ e)
-    by_test true e (inr j) later = let rest = later j in (inr rest.0, rest.1)
-    by_test false e j later = let rest = later j in (inr rest.0, rest.1)
+to_filter test (y ∷ ys) x (inr i) e =
+    let later = to_filter test ys x i e in
+    cond_both (test y) (y ∷ filter test ys) (filter test ys) (In x) (λ b. inr later) (λ b. later)
 
 all_of : {X : Type 0} (P : X → Type 0) (xs : List X) → ((x : X) → In x xs → P x) → All P xs
 all_of P xs each = λ k d h. each (get_or xs k d) (in_at xs k d h)
 
 filter_beside : (test : Chain → Bool) (cs : List Chain) → AreBeside cs → AreBeside (filter test cs)
 filter_beside test [] beside = tt
-filter_beside test (c ∷ cs) beside = by_test (test c) (filter_beside test cs beside.1)
+filter_beside test (c ∷ cs) beside =
+    let rest = filter_beside test cs beside.1 in
+    cond_both (test c) (c ∷ filter test cs) (filter test cs) AreBeside (λ b. (off, rest)) (λ b. rest)
   where
     off : IsBeside (filter test cs) c
     off t there = false_from (is_on_runs (filter test cs) t.seg.0) (λ e. by_run (any_at (λ (d : Chain). list_any (λ (u : ChainStep). eqb u.seg.0 t.seg.0) d.steps) (filter test cs) e))
       where
         by_run : (d : Chain) × In d (filter test cs) × (list_any (λ (u : ChainStep). eqb u.seg.0 t.seg.0) d.steps ≡ true) → ⊥
-        by_run (d, i, e) = true≢false (sym (any_from (λ (x : Chain). list_any (λ (u : ChainStep). eqb u.seg.0 t.seg.0) x.steps) cs d (from_filter test cs d i).0 e) ∙ beside.0 t there)
-
-    by_test : (b : Bool) → AreBeside (filter test cs) → AreBeside (cond b (c ∷ filter test cs) (filter test cs))
-    by_test true rest = (off, rest)
-    by_test false rest = rest
+        by_run (d, i, e) = true≢false (sym (any_from (λ (x : Chain). list_any (λ (u : ChainStep). eqb u.seg.0 t.seg.0) x.steps) cs d (in_filter test cs d i).1 e) ∙ beside.0 t there)
 
 module _ (graph : GraphParts) (fit : IsConsistent graph) (runs : List Chain) (run : (c : Chain) → In c runs → IsRun graph c) (beside : AreBeside runs) where
   -- nodes that are served move by an even number of steps
   served_fitting : (nodes : List NodeId) (d : Dir) (count : ℕ) → ((n : NodeId) → In n nodes → IsServed graph runs n) → count % 2 ≡ 0 → IsFitting graph (record { nodes = nodes; dir = d; count = count; runs = runs_at nodes runs })
   served_fitting nodes d count served even = record {
-    runs = all_of (IsRun graph) (runs_at nodes runs) (λ c i. run c (from_filter test runs c i).0);
+    runs = all_of (IsRun graph) (runs_at nodes runs) (λ c i. run c (in_filter test runs c i).1);
     beside = filter_beside test runs beside;
     nodes = all_of (λ (n : NodeId). n.0 < length graph.kinds) nodes (λ n i. (served n i).node);
     ends = all_of (λ (n : NodeId). is_inner (runs_at nodes runs) n.0 ≡ false) nodes (λ n i. outer n i);
@@ -281,7 +268,7 @@ module _ (graph : GraphParts) (fit : IsConsistent graph) (runs : List Chain) (ru
           by_run : (c : Chain) × In c (runs_at nodes runs) × (has_node (inner_nodes c.steps) n.0 ≡ true) → ⊥
           by_run (c, j, e) =
               let at = any_at (λ (m : NodeId). eqb m.0 n.0) (inner_nodes c.steps) e in
-              (served n i).outer c (from_filter test runs c j).0 at.0 at.1 (eqb-true at.0.0 n.0 at.2)
+              (served n i).outer c (in_filter test runs c j).1 at.0 at.1 (eqb-true at.0.0 n.0 at.2)
 
       there : (n : NodeId) → In n nodes → has_node nodes n.0 ≡ true
       there n i = any_from (λ (m : NodeId). eqb m.0 n.0) nodes n i (eq-eqb n.0 n.0 refl)
@@ -303,7 +290,12 @@ module _ (graph : GraphParts) (fit : IsConsistent graph) (runs : List Chain) (ru
       subst (IsFitting graph) (sym by_dir.2) (served_fitting nodes by_dir.0 (2 * (length_of.0 + 1)) served (omega arith))
 
   pub over_fitting : (nodes : List NodeId) → ((n : NodeId) → In n nodes → IsServed graph runs n) → ((c : Chain) → In c runs → IsServed graph runs c.from × IsServed graph runs (end_of c)) → (a : Attempt) → In a (moves_over runs nodes) → IsFitting graph a
-  over_fitting nodes served ends a i = by_part (in_append a (flat_map (λ n. moves_of runs (n ∷ [])) nodes) (flat_map (λ (c : Chain). moves_of runs (c.from ∷ end_of c ∷ [])) runs) i)
+  over_fitting nodes served ends a i = elim (in_append a (flat_map (λ n. moves_of runs (n ∷ [])) nodes) (flat_map (λ (c : Chain). moves_of runs (c.from ∷ end_of c ∷ [])) runs) i) [
+    | inl j ↦ (let at = from_flat_map (λ n. moves_of runs (n ∷ [])) nodes a j in moves_fitting (at.0 ∷ []) (one at.0 (served at.0 at.1)) a at.2)
+    | inr j ↦ (let at = from_flat_map (λ (c : Chain). moves_of runs (c.from ∷ end_of c ∷ [])) runs a j in
+        let two = ends at.0 at.1 in
+        moves_fitting (at.0.from ∷ end_of at.0 ∷ []) (both at.0.from (end_of at.0) two.0 two.1) a at.2)
+  ]
     where
       one : (n : NodeId) → IsServed graph runs n → (m : NodeId) → In m (n ∷ []) → IsServed graph runs m
       one n s m (inl e) = subst (IsServed graph runs) (sym e) s
@@ -314,33 +306,23 @@ module _ (graph : GraphParts) (fit : IsConsistent graph) (runs : List Chain) (ru
       both n k s t m (inr (inl e)) = subst (IsServed graph runs) (sym e) t
       both n k s t m (inr (inr none)) = absurd none
 
-      by_part : In a (flat_map (λ n. moves_of runs (n ∷ [])) nodes) ⊎ In a (flat_map (λ (c : Chain). moves_of runs (c.from ∷ end_of c ∷ [])) runs) → IsFitting graph a
-      by_part (inl j) = let at = from_flat_map (λ n. moves_of runs (n ∷ [])) nodes a j in moves_fitting (at.0 ∷ []) (one at.0 (served at.0 at.1)) a at.2
-      by_part (inr j) =
-          let at = from_flat_map (λ (c : Chain). moves_of runs (c.from ∷ end_of c ∷ [])) runs a j in
-          let two = ends at.0 at.1 in
-          moves_fitting (at.0.from ∷ end_of at.0 ∷ []) (both at.0.from (end_of at.0) two.0 two.1) a at.2
-
 -- ---- all attempts of a pass
 
 alone_fitting : (graph : GraphParts) (c : Chain) → IsRun graph c → IsFitting graph (attempts_alone c)
 alone_fitting graph c run = record {
-  runs = all_of (IsRun graph) (c ∷ []) (λ d i. of_one d i);
+  runs =
+      all_of (IsRun graph) (c ∷ [])
+      (λ d i. elim i [ inl e ↦ subst (IsRun graph) (sym e) run | inr none ↦ absurd none ]);
   beside = ((λ t there. refl), tt);
   nodes = λ k d h. absurd (omega (arith, h));
   ends = λ k d h. absurd (omega (arith, h));
   all = λ k d h. absurd (omega (arith, h));
   even = refl;
 }
-  where
-    of_one : (d : Chain) → In d (c ∷ []) → IsRun graph d
-    of_one d (inl e) = subst (IsRun graph) (sym e) run
-    of_one d (inr none) = absurd none
 
 single_run : (graph : GraphParts) → IsConsistent graph → (s : SegId) → s.0 < length graph.ends → IsRun graph (run_of graph s)
 single_run graph fit s below =
-    let none : NodeId = record { 0 = 0 } in
-    let are = fit.ends s.0 (none, none) below in
+    let are = fit.ends s.0 (record { 0 = 0 }, record { 0 = 0 }) below in
     record { some = omega arith; steps = (below, inl refl); once = ((λ u there e. in_from [] u there), tt); apart = λ e. omega (arith, e, are.0) }
 
 singles_beside : (graph : GraphParts) (a k : ℕ) → AreBeside (map (λ s. run_of graph (record { 0 = s })) (range_with_len a k))
@@ -351,11 +333,11 @@ singles_beside graph a (suc k) = (off, singles_beside graph (a + 1) k)
     off t there = false_from (is_on_runs (map (λ s. run_of graph (record { 0 = s })) (range_with_len (a + 1) k)) t.seg.0) (λ e. by_run (any_at (λ (c : Chain). list_any (λ (u : ChainStep). eqb u.seg.0 t.seg.0) c.steps) (map (λ s. run_of graph (record { 0 = s })) (range_with_len (a + 1) k)) e))
       where
         own : t.seg.0 ≡ a
-        own = of_one (in_from (record { seg = record { 0 = a }; to = (ends_of graph (record { 0 = a })).1 } ∷ []) t there)
-          where
-            of_one : In t (record { seg = record { 0 = a }; to = (ends_of graph (record { 0 = a })).1 } ∷ []) → t.seg.0 ≡ a
-            of_one (inl e) = ap (λ (x : ChainStep). x.seg.0) e
-            of_one (inr none) = absurd none
+        own =
+            elim (in_from (record { seg = record { 0 = a }; to = (ends_of graph (record { 0 = a })).1 } ∷ []) t there) [
+              | inl e ↦ ap (λ (x : ChainStep). x.seg.0) e
+              | inr none ↦ absurd none
+            ]
 
         from_later : (b m : ℕ) (x : ℕ) → In x (range_with_len b m) → b ≤ x
         from_later b zero x i = absurd i
@@ -390,13 +372,15 @@ module _ (graph : GraphParts) (fit : IsConsistent graph) (cell : ℕ) where
   single_ends : (c : Chain) → In c (single_runs graph) → IsServed graph (single_runs graph) c.from × IsServed graph (single_runs graph) (end_of c)
   single_ends c i =
       let at = single_is graph c i in
-      let none : NodeId = record { 0 = 0 } in
-      let are = fit.ends at.0.0 (none, none) at.1 in
+      let are = fit.ends at.0.0 (record { 0 = 0 }, record { 0 = 0 }) at.1 in
       subst (λ (x : Chain). IsServed graph (single_runs graph) x.from × IsServed graph (single_runs graph) (end_of x)) (sym at.2)
       (node_served graph fit (ends_of graph at.0).0 (omega (arith, are.0, are.1)), node_served graph fit (ends_of graph at.0).1 (omega (arith, are.1)))
 
   pub straight_fitting : (a : Attempt) → In a (straight_attempts graph (corners_of graph cell)) → IsFitting graph a
-  straight_fitting a i = by_part (in_append a (map attempts_alone (chains_of graph corners)) (moves_over (chains_of graph corners) (filter (is_corner corners) (nodes_of graph)) ++ moves_over (single_runs graph) (nodes_of graph)) i)
+  straight_fitting a i = elim (in_append a (map attempts_alone (chains_of graph corners)) (moves_over (chains_of graph corners) (filter (is_corner corners) (nodes_of graph)) ++ moves_over (single_runs graph) (nodes_of graph)) i) [
+    | inl j ↦ (let at = from_map attempts_alone (chains_of graph corners) a j in subst (IsFitting graph) (sym at.2) (alone_fitting graph at.0 (chain_run graph fit cell at.0 at.1).0))
+    | inr j ↦ by_rest (in_append a (moves_over (chains_of graph corners) (filter (is_corner corners) (nodes_of graph))) (moves_over (single_runs graph) (nodes_of graph)) j)
+  ]
     where
       node_of : (n : NodeId) → In n (nodes_of graph) → n.0 < length graph.kinds
       node_of n j = let r = from_range 0 (length graph.kinds) n j in omega (arith, r.1)
@@ -404,15 +388,10 @@ module _ (graph : GraphParts) (fit : IsConsistent graph) (cell : ℕ) where
       by_rest : In a (moves_over (chains_of graph corners) (filter (is_corner corners) (nodes_of graph))) ⊎ In a (moves_over (single_runs graph) (nodes_of graph)) → IsFitting graph a
       by_rest (inl j) =
           over_fitting graph fit (chains_of graph corners) (λ c k. (chain_run graph fit cell c k).0) (corner_chains_beside graph fit cell) (filter (is_corner corners) (nodes_of graph))
-          (λ n k. (let there = from_filter (is_corner corners) (nodes_of graph) n k in corner_served graph fit corners has n (node_of n there.0) there.1)) chain_ends a j
+          (λ n k. (let there = in_filter (is_corner corners) (nodes_of graph) n k in corner_served graph fit corners has n (node_of n there.1) there.0)) chain_ends a j
       by_rest (inr j) =
           over_fitting graph fit (single_runs graph) (λ c k. let at = single_is graph c k in subst (IsRun graph) (sym at.2) (single_run graph fit at.0 at.1)) (singles_beside graph 0 (length graph.ends)) (nodes_of graph)
           (λ n k. node_served graph fit n (node_of n k)) single_ends a j
-
-      by_part : In a (map attempts_alone (chains_of graph corners)) ⊎ In a (moves_over (chains_of graph corners) (filter (is_corner corners) (nodes_of graph)) ++ moves_over (single_runs graph) (nodes_of graph)) → IsFitting graph a
-      by_part (inl j) = let at = from_map attempts_alone (chains_of graph corners) a j in subst (IsFitting graph) (sym at.2) (alone_fitting graph at.0 (chain_run graph fit cell at.0 at.1).0)
-      by_part (inr j) =
-          by_rest (in_append a (moves_over (chains_of graph corners) (filter (is_corner corners) (nodes_of graph))) (moves_over (single_runs graph) (nodes_of graph)) j)
 
   pub all_fitting : All (IsFitting graph) (straight_attempts graph (corners_of graph cell))
   all_fitting = all_of (IsFitting graph) (straight_attempts graph (corners_of graph cell)) straight_fitting

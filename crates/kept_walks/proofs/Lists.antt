@@ -1,5 +1,5 @@
 -- Lists that are copied or compared from the front on.
-use Rattle.std.proofs.Common.{◌≡◌, ◌∙◌, sym, ap, ℕ, ◌+◌, ◌<◌, ◌≤◌, ◌⊎◌, ◌++◌, ◌∷◌, [], List, length, take, get_or, Some, None, inl, inr, arith}
+use Rattle.std.proofs.Common.{◌≡◌, ◌∙◌, sym, ap, ℕ, ◌+◌, ◌<◌, ◌≤◌, ◌++◌, ◌∷◌, [], List, length, take, Some, inl, inr, arith}
 use Rattle.std.specs.List.{slice_get}
 use Rattle.std.proofs.lemmas.List.{take_more, take_more_same, take_all}
 use Rattle.std.proofs.lemmas.Option.{slice_get_cases, slice_get_within, get_or_from_slice_get}
@@ -11,12 +11,10 @@ copied_more xs copy pushed i x so_far there more =
 
 -- one element more is the same
 pub same_more : {X : Type 0} (xs ys : List X) (i : ℕ) → i < length xs → i < length ys → take i xs ≡ take i ys → slice_get xs i ≡ slice_get ys i → take (i + 1) xs ≡ take (i + 1) ys
-same_more {X} xs ys i in_xs in_ys so_far same = by (slice_get_cases xs i).1
-  where
-    by : ((x : X) × (i < length xs) × (slice_get xs i ≡ Some x) × (get_or xs i x ≡ x)) ⊎ ((length xs ≤ i) × (slice_get xs i ≡ None)) → take (i + 1) xs ≡ take (i + 1) ys
-    by (inl there) =
-        take_more_same xs ys i there.0 in_xs in_ys so_far (there.3 ∙ sym (get_or_from_slice_get ys i there.0 there.0 (sym same ∙ there.2)))
-    by (inr past) = absurd (omega (arith, in_xs, past.0))
+same_more xs ys i in_xs in_ys so_far same = elim ((slice_get_cases xs i).1) [
+  | inl there ↦ take_more_same xs ys i there.0 in_xs in_ys so_far (there.3 ∙ sym (get_or_from_slice_get ys i there.0 there.0 (sym same ∙ there.2)))
+  | inr past ↦ absurd (omega (arith, in_xs, past.0))
+]
 
 -- lists that are the same to their ends are one
 pub all_same : {X : Type 0} (xs ys : List X) (n : ℕ) → length xs ≤ n → length ys ≤ n → take n xs ≡ take n ys → xs ≡ ys

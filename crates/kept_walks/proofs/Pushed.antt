@@ -77,13 +77,10 @@ corner_more corners F old before new n so_far is =
     ∙ by_test (is_corner corners (record { 0 = n }))
     ∙ ap (λ (ns : List NodeId). old ++ flat_map F ns) (sym (corners_split corners n (is_corner corners (record { 0 = n })) refl))
   where
-    kept : List NodeId
-    kept = filter (is_corner corners) (all_nodes n)
-
     by_test : (b : Bool) → (old ++ flat_map F (filter (is_corner corners) (all_nodes n))) ++ cond b (F (record { 0 = n })) []
         ≡ old ++ flat_map F (cond b (filter (is_corner corners) (all_nodes n) ++ record { 0 = n } ∷ []) (filter (is_corner corners) (all_nodes n)))
-    by_test true = flat_map_more F old kept (record { 0 = n })
-    by_test false = append-nil (old ++ flat_map F kept)
+    by_test true = flat_map_more F old (filter (is_corner corners) (all_nodes n)) (record { 0 = n })
+    by_test false = append-nil (old ++ flat_map F (filter (is_corner corners) (all_nodes n)))
 
 -- all groups of a pass
 pub all_pushed : (a b c d e f u v w x y : List Attempt) → a ≡ [] → b ≡ a ++ u → c ≡ b ++ v → d ≡ c ++ w → e ≡ d ++ x → f ≡ e ++ y → f ≡ u ++ ((v ++ w) ++ (x ++ y))

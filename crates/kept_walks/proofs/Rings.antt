@@ -82,7 +82,12 @@ module _ (graph : GraphParts) (fit : IsConsistent graph) (few more : List Bool) 
 
   -- a way from a node between its steps, by the segment that goes on there, doesn't come back there
   never_back : (n : NodeId) (ts : List ChainStep) → IsWay graph more n ts → (i : ℕ) (d : ChainStep) → i + 1 < length ds → n ≡ (get_or ds i d).to → first_seg_of ts ≡ (get_or ds (i + 1) d).seg → n.0 ≡ (end_after n ts).0 → ⊥
-  never_back n ts v i d h at same ring = by_end (only_two graph fit (get_or ds i d).seg (get_or ds (i + 1) d).seg n last alone node last_there.0 (subst (IsEndOf graph last) (sym ring) last_there.1))
+  never_back n ts v i d h at same ring = elim (only_two graph fit (get_or ds i d).seg (get_or ds (i + 1) d).seg n last alone node last_there.0 (subst (IsEndOf graph last) (sym ring) last_there.1)) [
+    | inl e ↦ (let q = last_step (first_seg_of ts) ts v.some in
+        let found = follows ts n (i + 1) d v.steps v.inner h (subst (λ (y : NodeId). LeadsTo graph y (get_or ds (i + 1) d)) (sym at) a.leads) v.some same q.0 q.1 in
+        once_at ds w.once i found.0 d (omega (arith, found.1)) found.2 (ap (λ (s : SegId). s.0) (sym e ∙ sym q.2 ∙ sym found.3)))
+    | inr e ↦ one_loop graph fit n ts v.steps v.once v.some (same ∙ sym e) ring
+  ]
     where
       a : AreNext graph ds (get_or ds i d) (get_or ds (i + 1) d)
       a = next_at graph m ds w.steps i d h
@@ -98,13 +103,6 @@ module _ (graph : GraphParts) (fit : IsConsistent graph) (few more : List Bool) 
 
       node : n.0 < length graph.kinds
       node = end_below graph fit last n.0 last_there.0 (subst (IsEndOf graph last) (sym ring) last_there.1)
-
-      by_end : (last ≡ (get_or ds i d).seg) ⊎ (last ≡ (get_or ds (i + 1) d).seg) → ⊥
-      by_end (inl e) =
-          let q = last_step (first_seg_of ts) ts v.some in
-          let found = follows ts n (i + 1) d v.steps v.inner h (subst (λ (y : NodeId). LeadsTo graph y (get_or ds (i + 1) d)) (sym at) a.leads) v.some same q.0 q.1 in
-          once_at ds w.once i found.0 d (omega (arith, found.1)) found.2 (ap (λ (s : SegId). s.0) (sym e ∙ sym q.2 ∙ sym found.3))
-      by_end (inr e) = one_loop graph fit n ts v.steps v.once v.some (same ∙ sym e) ring
 
 -- ---- a node between steps of a way between fewer corners is on no ring
 

@@ -1,5 +1,5 @@
 -- Rounds of nodes: no segment is there twice, and where two meet a way goes on over the other one.
-use Rattle.std.proofs.Common.{◌≡◌, refl, sym, ◌∙◌, ap, subst, ℕ, ◌+◌, ◌<◌, ◌≤◌, Bool, true, false, cond, eqb, List, [], ◌∷◌, length, ◌⊎◌, inl, inr, arith}
+use Rattle.std.proofs.Common.{◌≡◌, refl, sym, ◌∙◌, ap, subst, ℕ, ◌+◌, ◌<◌, ◌≤◌, Bool, true, false, cond, eqb, List, [], ◌∷◌, length, inl, inr, arith}
 use Rattle.std.proofs.lemmas.Bool.{cases_eq, eq-eqb, ne_eqb}
 use Rattle.std.proofs.lemmas.List.Sorted.{sum_by-IsPermutation}
 use Rattle.std.proofs.lemmas.List.Sums.{sum_by-cons}
@@ -34,19 +34,16 @@ once_from s n i (e ∷ es) = by_test (ends_at n e) (once_from s n (i + 1) es)
   where
     by_test : (b : Bool) → sum_by (is_seg s) (segments_from (i + 1) n es) ≤ 1 → sum_by (is_seg s) (cond b (record { 0 = i } ∷ segments_from (i + 1) n es) (segments_from (i + 1) n es)) ≤ 1
     by_test false rest = rest
-    by_test true rest = by_number (cases_eq i s)
+    by_test true rest = elim (cases_eq i s) [
+      | inl same ↦ (let one : is_seg s (record { 0 = i }) ≡ 1 = ap (λ b. cond b 1 0) (eq-eqb i s same) in
+          let none = none_from s n (i + 1) es (omega (arith, same)) in
+          omega (arith, all, one, none))
+      | inr other ↦ (let none : is_seg s (record { 0 = i }) ≡ 0 = ap (λ b. cond b 1 0) (ne_eqb i s other) in
+          omega (arith, all, none, rest))
+    ]
       where
         all : sum_by (is_seg s) (record { 0 = i } ∷ segments_from (i + 1) n es) ≡ is_seg s (record { 0 = i }) + sum_by (is_seg s) (segments_from (i + 1) n es)
         all = sum_by-cons (is_seg s) (record { 0 = i }) (segments_from (i + 1) n es)
-
-        by_number : (i ≡ s) ⊎ (i ≡ s → ⊥) → sum_by (is_seg s) (record { 0 = i } ∷ segments_from (i + 1) n es) ≤ 1
-        by_number (inl same) =
-            let one : is_seg s (record { 0 = i }) ≡ 1 = ap (λ b. cond b 1 0) (eq-eqb i s same) in
-            let none = none_from s n (i + 1) es (omega (arith, same)) in
-            omega (arith, all, one, none)
-        by_number (inr other) =
-            let none : is_seg s (record { 0 = i }) ≡ 0 = ap (λ b. cond b 1 0) (ne_eqb i s other) in
-            omega (arith, all, none, rest)
 
 -- no segment is in a list twice
 abbrev pub AreSegsOnce : List SegId → Type 0

@@ -56,12 +56,10 @@ back_steps graph n (t ∷ u ∷ us) steps =
 -- a step of the one is one of the other
 pub from_back : (n : NodeId) (ts : List ChainStep) (q : ChainStep) → In q (back n ts) → (p : ChainStep) × In p ts × (p.seg ≡ q.seg)
 from_back n [] q i = absurd i
-from_back n (t ∷ ts) q i = by_place (in_append q (back t.to ts) (record { seg = t.seg; to = n } ∷ []) i) (from_back t.to ts q)
-  where
-    by_place : In q (back t.to ts) ⊎ In q (record { seg = t.seg; to = n } ∷ []) → (In q (back t.to ts) → (p : ChainStep) × In p ts × (p.seg ≡ q.seg)) → (p : ChainStep) × In p (t ∷ ts) × (p.seg ≡ q.seg)
-    by_place (inl j) later = let rest = later j in (rest.0, inr rest.1, rest.2)
-    by_place (inr (inl e)) later = (t, inl refl, ap (λ (p : ChainStep). p.seg) (sym e))
-    by_place (inr (inr none)) later = absurd none
+from_back n (t ∷ ts) q i = elim (in_append q (back t.to ts) (record { seg = t.seg; to = n } ∷ []) i) [
+  | inl j ↦ (let rest = from_back t.to ts q j in (rest.0, inr rest.1, rest.2))
+  | inr j ↦ elim j [ inl e ↦ (t, inl refl, ap (λ (p : ChainStep). p.seg) (sym e)) | inr none ↦ absurd none ]
+]
 
 first_of_steps : (graph : GraphParts) (n : NodeId) (t : ChainStep) (ts : List ChainStep) → AreSteps graph n (t ∷ ts) → LeadsTo graph n t × AreSteps graph t.to ts
 first_of_steps graph n t [] steps = (steps.1, tt)

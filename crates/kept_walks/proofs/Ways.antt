@@ -67,12 +67,10 @@ once_push [] u once off = ((λ q there e. in_from [] q there), tt)
 once_push (t ∷ ts) u once off = (again, once_push ts u once.1 (λ q i e. off q (inr i) e))
   where
     again : (q : ChainStep) → Contains (ts ++ u ∷ []) q → q.seg.0 ≡ t.seg.0 → ⊥
-    again q there e = by_place (in_append q ts (u ∷ []) (in_from (ts ++ u ∷ []) q there))
-      where
-        by_place : In q ts ⊎ In q (u ∷ []) → ⊥
-        by_place (inl i) = once.0 q (contains_in ts q i) e
-        by_place (inr (inl same)) = off t (inl refl) (sym e ∙ ap (λ (p : ChainStep). p.seg.0) same)
-        by_place (inr (inr none)) = none
+    again q there e = elim (in_append q ts (u ∷ []) (in_from (ts ++ u ∷ []) q there)) [
+      | inl i ↦ once.0 q (contains_in ts q i) e
+      | inr i ↦ elim i [ inl same ↦ off t (inl refl) (sym e ∙ ap (λ (p : ChainStep). p.seg.0) same) | inr none ↦ none ]
+    ]
 
 -- a node between steps and one more
 pub inner_push : (n : NodeId) (ts : List ChainStep) (u : ChainStep) (m : NodeId) → In m (inner_nodes (ts ++ u ∷ [])) → In m (inner_nodes ts) ⊎ ((0 < length ts) × (m ≡ end_after n ts))
@@ -80,11 +78,10 @@ inner_push n [] u m i = absurd i
 inner_push n (t ∷ []) u m (inl e) = inr (omega arith, e)
 inner_push n (t ∷ []) u m (inr i) = absurd i
 inner_push n (t ∷ v ∷ vs) u m (inl e) = inl (inl e)
-inner_push n (t ∷ v ∷ vs) u m (inr i) = later (inner_push t.to (v ∷ vs) u m i)
-  where
-    later : In m (inner_nodes (v ∷ vs)) ⊎ ((0 < length (v ∷ vs)) × (m ≡ end_after t.to (v ∷ vs))) → In m (inner_nodes (t ∷ v ∷ vs)) ⊎ ((0 < length (t ∷ v ∷ vs)) × (m ≡ end_after t.to (v ∷ vs)))
-    later (inl j) = inl (inr j)
-    later (inr (some, e)) = inr (omega arith, e)
+inner_push n (t ∷ v ∷ vs) u m (inr i) = elim (inner_push t.to (v ∷ vs) u m i) [
+  | inl j ↦ inl (inr j)
+  | inr at ↦ inr (omega arith, at.1)
+]
 
 -- where steps end at a node that is not their start, the segment that goes on from there is off them
 pub next_off : (graph : GraphParts) → IsConsistent graph → (n : NodeId) (ts : List ChainStep) (o : SegId) → 0 < length ts → AreSteps graph n ts → AreOnce ts → (n.0 ≡ (end_after n ts).0 → ⊥) → IsOther graph (last_seg (first_seg_of ts) ts) (end_after n ts) o
@@ -145,11 +142,10 @@ module _ (graph : GraphParts) (fit : IsConsistent graph) (corners : List Bool) (
       once_on = once_push ts u once off
 
       inner_on : (k : NodeId) → In k (inner_nodes on) → is_corner corners k ≡ false
-      inner_on k i = by_place (inner_push n ts u k i)
-        where
-          by_place : In k (inner_nodes ts) ⊎ ((0 < length ts) × (k ≡ end_after n ts)) → is_corner corners k ≡ false
-          by_place (inl j) = inner k j
-          by_place (inr (some, e)) = ap (is_corner corners) (e ∙ at) ∙ free some
+      inner_on k i = elim (inner_push n ts u k i) [
+        | inl j ↦ inner k j
+        | inr there ↦ ap (is_corner corners) (there.1 ∙ at) ∙ free there.0
+      ]
 
       at_on : end_after n on ≡ z
       at_on = end_push n ts u

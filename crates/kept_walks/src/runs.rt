@@ -70,11 +70,7 @@ fn push_if_at(
 fn ends_at(nodes: &[NodeId], run: &Chain) -> bool
     ensures { result ≡ ends_at nodes.now run.now }
 {
-    if has_node(nodes, run.from) {
-        return true;
-    }
-    let end = run.end();
-    has_node(nodes, end)
+    has_node(nodes, run.from) || has_node(nodes, run.end())
 }
 
 /// Whether a node is one of these.

@@ -10,13 +10,10 @@ use map_base::{NodeId, SegId};
 pub(crate) fn are_same_graphs(some: &LineGraph, other: &LineGraph) -> bool
     ensures { IsTrue result → some.now ≡ other.now }
 {
-    if some.nodes() != other.nodes() || some.segs() != other.segs() {
-        return false;
-    }
-    if !have_same_nodes(some, other) {
-        return false;
-    }
-    have_same_segments(some, other)
+    some.nodes() == other.nodes()
+        && some.segs() == other.segs()
+        && have_same_nodes(some, other)
+        && have_same_segments(some, other)
 }
 
 /// Whether graphs of as many nodes have the same at each of them.
@@ -47,16 +44,10 @@ fn have_same_node(some: &LineGraph, other: &LineGraph, n: NodeId) -> bool
     ensures rounds { IsTrue result → slice_get some.now.rounds n.0 ≡ slice_get other.now.rounds n.0 }
     ensures joins { IsTrue result → slice_get some.now.joins n.0 ≡ slice_get other.now.joins n.0 }
 {
-    if some.kind(n) != other.kind(n) {
-        return false;
-    }
-    if some.place(n) != other.place(n) {
-        return false;
-    }
-    if !have_same_round(some, other, n) {
-        return false;
-    }
-    have_same_joins(some, other, n)
+    some.kind(n) == other.kind(n)
+        && some.place(n) == other.place(n)
+        && have_same_round(some, other, n)
+        && have_same_joins(some, other, n)
 }
 
 /// Whether graphs have the same segments round a node.
@@ -103,10 +94,7 @@ fn have_same_segment(some: &LineGraph, other: &LineGraph, s: SegId) -> bool
     ensures ends { IsTrue result → slice_get some.now.ends s.0 ≡ slice_get other.now.ends s.0 }
     ensures lines { IsTrue result → slice_get some.now.lines s.0 ≡ slice_get other.now.lines s.0 }
 {
-    if some.ends(s) != other.ends(s) {
-        return false;
-    }
-    have_same_lines(some, other, s)
+    some.ends(s) == other.ends(s) && have_same_lines(some, other, s)
 }
 
 /// Whether graphs have the same lines on a segment.

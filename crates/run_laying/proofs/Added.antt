@@ -58,22 +58,19 @@ module _ (graph : GraphParts) (fit : IsConsistent graph) (k : Sketch) (s : SegId
 
   -- the new walk, or one that was there before
   pub which_walk : (t : SegId) (v : PlainWalk) → walk_in added t ≡ Some v → ((t ≡ s) × (w ≡ v)) ⊎ ((t.0 ≡ s.0 → ⊥) × (walk_in k t ≡ Some v))
-  which_walk t v e = by_number (cases_eq t.0 s.0)
-    where
-      by_number : (t.0 ≡ s.0) ⊎ (t.0 ≡ s.0 → ⊥) → ((t ≡ s) × (w ≡ v)) ⊎ ((t.0 ≡ s.0 → ⊥) × (walk_in k t ≡ Some v))
-      by_number (inl i) =
-          let same : t ≡ s = same_seg t s i in
-          let both : Some w ≡ Some v = sym (walk_new graph k s (Some w) h.walks_each a.segment) ∙ ap (walk_in added) (sym same) ∙ e in
-          inl (same, cc)
-      by_number (inr f) = inr (f, sym (walk_other k s t (Some w) f) ∙ e)
+  which_walk t v e = elim (cases_eq t.0 s.0) [
+    | inl i ↦ (let same : t ≡ s = same_seg t s i in
+        let both : Some w ≡ Some v = sym (walk_new graph k s (Some w) h.walks_each a.segment) ∙ ap (walk_in added) (sym same) ∙ e in
+        inl (same, cc))
+    | inr f ↦ inr (f, sym (walk_other k s t (Some w) f) ∙ e)
+  ]
 
   -- what holds of the new walk, and of those before, holds of all
   each_walk : (P : SegId → PlainWalk → Type 0) → P s w → ((t : SegId) (v : PlainWalk) → walk_in k t ≡ Some v → P t v) → (t : SegId) (v : PlainWalk) → walk_in added t ≡ Some v → P t v
-  each_walk P new old t v e = by_walk (which_walk t v e)
-    where
-      by_walk : ((t ≡ s) × (w ≡ v)) ⊎ ((t.0 ≡ s.0 → ⊥) × (walk_in k t ≡ Some v)) → P t v
-      by_walk (inl i) = subst (λ (u : SegId). P u v) (sym i.0) (subst (λ (x : PlainWalk). P s x) i.1 new)
-      by_walk (inr i) = old t v i.1
+  each_walk P new old t v e = elim (which_walk t v e) [
+    | inl i ↦ subst (λ (u : SegId). P u v) (sym i.0) (subst (λ (x : PlainWalk). P s x) i.1 new)
+    | inr i ↦ old t v i.1
+  ]
 
   turned_meeting : (t u : SegId) (d : GridPoint) → IsMeeting graph k t u d → IsMeeting graph k u t d
   turned_meeting t u d m = record { node = m.node; of_one = m.of_other; of_other = m.of_one; there = m.there }

@@ -1,5 +1,5 @@
 -- A legal drawing from which runs are taken away, and whose nodes have moved, is a legal sketch.
-use Rattle.std.proofs.Common.{◌≡◌, refl, sym, ◌∙◌, ap, subst, ℕ, zero, suc, ◌+◌, ◌%◌, ◌<◌, ◌≤◌, Bool, true, false, not, cond, eqb, ◌&&◌, ◌||◌, List, [], length, get_or, replicate, slice_get, Some, None, ℤ, ◌+ℤ◌, unsigned_abs, ◌⊎◌, inl, inr, arith}
+use Rattle.std.proofs.Common.{◌≡◌, refl, sym, ◌∙◌, ap, subst, ℕ, zero, suc, ◌+◌, ◌%◌, ◌<◌, Bool, true, false, not, cond, eqb, ◌&&◌, ◌||◌, List, [], length, get_or, replicate, slice_get, Some, None, ℤ, ◌+ℤ◌, unsigned_abs, ◌⊎◌, inl, inr, arith}
 use Rattle.std.proofs.lemmas.Int.{ints}
 use Rattle.std.proofs.lemmas.Bool.{and_from, and_parts, cases_Bool, cases_lt, eqb-true, eq-eqb, not-true, or_cases, true≢false}
 use Rattle.std.proofs.lemmas.List.{get_or_default, get_or_past}
@@ -118,12 +118,10 @@ module _ (graph : GraphParts) (fit : IsConsistent graph) (bounds : Bounds) (walk
       (apart_between (legs_of graph.ends walks) s.0 t.0 (ends_of graph s, walk_of s) (ends_of graph t, walk_of t) (meets_fit graph walks on_board.drawn).apart less (leg_at s h) (leg_at t j)) m n)
 
   drawn_meeting : (s t : SegId) (d : GridPoint) → (s.0 ≡ t.0 → ⊥) → s.0 < length graph.ends → t.0 < length graph.ends → In d (doubled_of (walk_of s)) → In d (doubled_of (walk_of t)) → DrawnMeeting s t d
-  drawn_meeting s t d f h j m n = by_order (cases_lt s.0 t.0)
-    where
-      by_order : (s.0 < t.0) ⊎ (t.0 ≤ s.0) → DrawnMeeting s t d
-      by_order (inl less) = ordered_meeting s t d less h j m n
-      by_order (inr more) =
-          let met = ordered_meeting t s d (omega (arith, f, more)) j h n m in record { node = met.node; of_one = met.of_other; of_other = met.of_one; there = met.there }
+  drawn_meeting s t d f h j m n = elim (cases_lt s.0 t.0) [
+    | inl less ↦ ordered_meeting s t d less h j m n
+    | inr more ↦ (let met = ordered_meeting t s d (omega (arith, f, more)) j h n m in record { node = met.node; of_one = met.of_other; of_other = met.of_one; there = met.there })
+  ]
 
   drawn_clear : (s : SegId) (n : ℕ) → s.0 < length graph.ends → n < length graph.kinds → In (doubled (point_of graph walks n)) (doubled_of (walk_of s)) → IsEndOf graph s n
   drawn_clear s n h node m =
@@ -132,11 +130,11 @@ module _ (graph : GraphParts) (fit : IsConsistent graph) (bounds : Bounds) (walk
       ((meets_fit graph walks on_board.drawn).clear (ends_of graph s, walk_of s) put.put (in_legs s h) put.there))
     where
       by_test : (put : PutAt graph walks n) → ((eqb (ends_of graph s).0.0 put.put.0 || eqb (ends_of graph s).1.0 put.put.0) ≡ true) ⊎ (not (is_among (doubled_of (walk_of s)) (doubled put.put.1)) ≡ true) → IsEndOf graph s n
-      by_test put (inl t) = by_end (or_cases (eqb (ends_of graph s).0.0 put.put.0) (eqb (ends_of graph s).1.0 put.put.0) t)
-        where
-          by_end : (eqb (ends_of graph s).0.0 put.put.0 ≡ true) ⊎ (eqb (ends_of graph s).1.0 put.put.0 ≡ true) → IsEndOf graph s n
-          by_end (inl u) = inl (eqb-true (ends_of graph s).0.0 put.put.0 u ∙ put.node)
-          by_end (inr u) = inr (eqb-true (ends_of graph s).1.0 put.put.0 u ∙ put.node)
+      by_test put (inl t) =
+          elim (or_cases (eqb (ends_of graph s).0.0 put.put.0) (eqb (ends_of graph s).1.0 put.put.0) t) [
+            | inl u ↦ inl (eqb-true (ends_of graph s).0.0 put.put.0 u ∙ put.node)
+            | inr u ↦ inr (eqb-true (ends_of graph s).1.0 put.put.0 u ∙ put.node)
+          ]
       by_test put (inr t) =
           absurd (true≢false (sym (among_from (doubled_of (walk_of s)) (doubled put.put.1) (subst (λ (q : GridPoint). In (doubled q) (doubled_of (walk_of s))) put.point m)) ∙ not-true (is_among (doubled_of (walk_of s)) (doubled put.put.1)) t))
 
@@ -151,15 +149,14 @@ module _ (graph : GraphParts) (fit : IsConsistent graph) (bounds : Bounds) (walk
   left_walk s h = get_or-map-range_with_len (walk_beside walks a.runs) 0 (length graph.ends) s.0 s.0 None h (omega arith)
 
   left_of : (s : SegId) (w : PlainWalk) → walk_in k0 s ≡ Some w → IsLeft s w
-  left_of s w e = by_order (cases_lt s.0 (length graph.ends))
+  left_of s w e = elim (cases_lt s.0 (length graph.ends)) [
+    | inl h ↦ by_test h (is_on_runs a.runs s.0) refl (sym (left_walk s h) ∙ e)
+    | inr past ↦ (let none : None ≡ Some w = sym (get_or_past k0.walks s.0 None (omega (arith, past, length-map-range_with_len (walk_beside walks a.runs) 0 (length graph.ends)))) ∙ e in cc)
+  ]
     where
       by_test : s.0 < length graph.ends → (t : Bool) → is_on_runs a.runs s.0 ≡ t → cond t None (Some (walk_of s)) ≡ Some w → IsLeft s w
       by_test h true on there = cc
       by_test h false off there = record { below = h; off = off; is = cc }
-
-      by_order : (s.0 < length graph.ends) ⊎ (length graph.ends ≤ s.0) → IsLeft s w
-      by_order (inl h) = by_test h (is_on_runs a.runs s.0) refl (sym (left_walk s h) ∙ e)
-      by_order (inr past) = let none : None ≡ Some w = sym (get_or_past k0.walks s.0 None (omega (arith, past, length-map-range_with_len (walk_beside walks a.runs) 0 (length graph.ends)))) ∙ e in cc
 
   -- nodes that stand
   record IsStanding (n : ℕ) : Type 0 where
@@ -170,12 +167,10 @@ module _ (graph : GraphParts) (fit : IsConsistent graph) (bounds : Bounds) (walk
   flag_at n h = get_or-map-range_with_len (λ n. not (is_inner a.runs n)) 0 (length graph.kinds) n n false h (omega arith)
 
   stands_of : (n : ℕ) → is_standing k0 n ≡ true → IsStanding n
-  stands_of n e = by_order (cases_lt n (length graph.kinds))
-    where
-      by_order : (n < length graph.kinds) ⊎ (length graph.kinds ≤ n) → IsStanding n
-      by_order (inl h) = record { node = h; outer = not-true (is_inner a.runs n) (sym (flag_at n h) ∙ e) }
-      by_order (inr past) =
-          absurd (true≢false (sym e ∙ get_or_past k0.stand n false (omega (arith, past, length-map-range_with_len (λ n. not (is_inner a.runs n)) 0 (length graph.kinds)))))
+  stands_of n e = elim (cases_lt n (length graph.kinds)) [
+    | inl h ↦ record { node = h; outer = not-true (is_inner a.runs n) (sym (flag_at n h) ∙ e) }
+    | inr past ↦ absurd (true≢false (sym e ∙ get_or_past k0.stand n false (omega (arith, past, length-map-range_with_len (λ n. not (is_inner a.runs n)) 0 (length graph.kinds)))))
+  ]
 
   pub stands_from : (n : ℕ) → n < length graph.kinds → is_inner a.runs n ≡ false → is_standing k0 n ≡ true
   stands_from n h outer = flag_at n h ∙ ap not outer
@@ -243,11 +238,10 @@ module _ (graph : GraphParts) (fit : IsConsistent graph) (bounds : Bounds) (walk
 
     -- a fact of points of the drawing, and of those to which nodes move, is one of nodes that stand
     by_move : (P : ℕ → Type 0) → ((n : ℕ) → IsStanding n → has_node a.nodes n ≡ true → P n) → ((n : ℕ) → IsStanding n → has_node a.nodes n ≡ false → P n) → (n : ℕ) → is_standing k0 n ≡ true → P n
-    by_move P moves stays n e = by_test (cases_Bool (has_node a.nodes n))
-      where
-        by_test : (has_node a.nodes n ≡ true) ⊎ (has_node a.nodes n ≡ false) → P n
-        by_test (inl t) = moves n (stands_of n e) t
-        by_test (inr f) = stays n (stands_of n e) f
+    by_move P moves stays n e = elim (cases_Bool (has_node a.nodes n)) [
+      | inl t ↦ moves n (stands_of n e) t
+      | inr f ↦ stays n (stands_of n e) f
+    ]
 
     points_inside : (n : ℕ) → is_standing k0 n ≡ true → contains bounds (point_of_node k0 n) ≡ true
     points_inside =
@@ -295,20 +289,17 @@ module _ (graph : GraphParts) (fit : IsConsistent graph) (bounds : Bounds) (walk
         record { node = met.node; of_one = met.of_one; of_other = met.of_other; there = ap doubled (left_end s v e met.node met.of_one).1 ∙ met.there }
 
     walks_clear : (s : SegId) (w : PlainWalk) (n : ℕ) → walk_in k0 s ≡ Some w → is_standing k0 n ≡ true → is_among (doubled_of w) (doubled (point_of_node k0 n)) ≡ true → IsEndOf graph s n
-    walks_clear s w n e stands i = by_test (cases_Bool (has_node a.nodes n))
+    walks_clear s w n e stands i = elim (cases_Bool (has_node a.nodes n)) [
+      | inl t ↦ absurd (true≢false
+          (sym (any_from (comes_over_point (point_of_node k0 n)) k0.walks (Some w) (in_walks k0.walks s.0 w e) (among_from (points_of w) (point_of_node k0 n) (undoubled (point_of_node k0 n) w.start w.steps here)))
+          ∙ (moved_parts n t).2))
+      | inr f ↦ (let left = left_of s w e in
+          let node = (stands_of n stands).node in
+          drawn_clear s n left.below node (subst (λ (x : PlainWalk). In (doubled (point_of graph walks n)) (doubled_of x)) (sym left.is) (subst (λ (q : GridPoint). In (doubled q) (doubled_of w)) (point_still n node f) here)))
+    ]
       where
         here : In (doubled (point_of_node k0 n)) (doubled_of w)
         here = among_at (doubled_of w) (doubled (point_of_node k0 n)) i
-
-        by_test : (has_node a.nodes n ≡ true) ⊎ (has_node a.nodes n ≡ false) → IsEndOf graph s n
-        by_test (inl t) =
-            absurd (true≢false
-            (sym (any_from (comes_over_point (point_of_node k0 n)) k0.walks (Some w) (in_walks k0.walks s.0 w e) (among_from (points_of w) (point_of_node k0 n) (undoubled (point_of_node k0 n) w.start w.steps here)))
-            ∙ (moved_parts n t).2))
-        by_test (inr f) =
-            let left = left_of s w e in
-            let node = (stands_of n stands).node in
-            drawn_clear s n left.below node (subst (λ (x : PlainWalk). In (doubled (point_of graph walks n)) (doubled_of x)) (sym left.is) (subst (λ (q : GridPoint). In (doubled q) (doubled_of w)) (point_still n node f) here))
 
     same_port : (n : ℕ) (s : SegId) → IsSameOrNone (port_at_node graph (board_under k0) n s) (port_of (legs_of graph.ends walks) n s)
     same_port n s = by_walk (some_or_none (walk_in k0 s))

@@ -2,6 +2,7 @@
 use Rattle.std.proofs.Common.{◌≡◌, refl, sym, ◌∙◌, ap, subst, ℕ, zero, suc, ◌+◌, ◌-◌, ◌*◌, ◌/◌, ◌<◌, ◌≤◌, Bool, true, false, cond, List, [], ◌∷◌, length, map, filter, take, drop, get_or, min, inl, inr, arith, length-drop}
 use Rattle.std.proofs.Math.Nat.{div-eq_of_lt, div-mul-le_self, mul-div_cancel_left, mul-le-mul_right}
 use Rattle.std.proofs.lemmas.Nat.{le-div}
+use Rattle.std.proofs.lemmas.Bool.{cond_both}
 use Rattle.std.proofs.Math.Seq.{take-add}
 use Rattle.std.proofs.lemmas.List.{length-map, length-take, take_all}
 use Rattle.std.proofs.lemmas.List.Folds.{drop_split}
@@ -70,17 +71,12 @@ passing_last p a zero e =
     let same : a + 0 ≡ a = omega arith in
     let here : p a ≡ true = ap p (sym same) ∙ e in
     subst (λ t. HasLast (cond t (a ∷ []) []) (a + 0)) (sym here) (record { at = 0; long = refl; there = sym same })
-passing_last p a (suc n) e = by_test (subst (λ j. HasLast (passing p (a + 1) (suc n)) j) same (passing_last p (a + 1) n (ap p same ∙ e))) (p a)
-  where
-    same : a + 1 + n ≡ a + suc n
-    same = omega arith
-
-    ys : List ℕ
-    ys = passing p (a + 1) (suc n)
-
-    by_test : HasLast ys (a + suc n) → (t : Bool) → HasLast (cond t (a ∷ ys) ys) (a + suc n)
-    by_test rest true = record { at = suc rest.at; long = ap suc rest.long; there = rest.there }
-    by_test rest false = rest
+passing_last p a (suc n) e =
+    let same : a + 1 + n ≡ a + suc n = omega arith in
+    let ys : List ℕ = passing p (a + 1) (suc n) in
+    let rest : HasLast ys (a + suc n) = subst (λ j. HasLast ys j) same (passing_last p (a + 1) n (ap p same ∙ e)) in
+    cond_both (p a) (a ∷ ys) ys (λ xs. HasLast xs (a + suc n))
+    (λ t. record { at = suc rest.at; long = ap suc rest.long; there = rest.there }) (λ t. rest)
 
 -- ---- the places of cuts
 

@@ -71,15 +71,12 @@ module _ (graph : GraphParts) (k : Sketch) (h : IsLegalSketch graph k) (n e : �
   is_end t v d m i stands at j = h.clear t v m i stands (among_from (doubled_of v) (doubled (point_of_node k m)) (subst (λ (q : GridPoint). In q (doubled_of v)) (sym at) j))
 
   meets : (t : SegId) (v : PlainWalk) (d : GridPoint) → walk_in k t ≡ Some v → In d (doubled_of w) → In d (doubled_of v) → MeetsAt graph k t d n e
-  meets t v d i m j = which (or_cases (not from.is_free && are_one (doubled w.start) d) (not to.is_free && are_one (doubled (end_point w)) d) (r.clear d m (taken_shown k t v d i j)))
-    where
-      which : ((not from.is_free && are_one (doubled w.start) d) ≡ true) ⊎ ((not to.is_free && are_one (doubled (end_point w)) d) ≡ true) → MeetsAt graph k t d n e
-      which (inl q) =
-          let at : doubled (point_of_node k n) ≡ d = ap doubled (sym starts) ∙ one_point (doubled w.start) d (and_parts (not from.is_free) (are_one (doubled w.start) d) q).1 in
-          inl (at, is_end t v d n i from_stands at j)
-      which (inr q) =
-          let at : doubled (point_of_node k e) ≡ d = ap doubled (sym ends) ∙ one_point (doubled (end_point w)) d (and_parts (not to.is_free) (are_one (doubled (end_point w)) d) q).1 in
-          inr (at, is_end t v d e i to_stands at j)
+  meets t v d i m j = elim (or_cases (not from.is_free && are_one (doubled w.start) d) (not to.is_free && are_one (doubled (end_point w)) d) (r.clear d m (taken_shown k t v d i j))) [
+    | inl q ↦ (let at : doubled (point_of_node k n) ≡ d = ap doubled (sym starts) ∙ one_point (doubled w.start) d (and_parts (not from.is_free) (are_one (doubled w.start) d) q).1 in
+        inl (at, is_end t v d n i from_stands at j))
+    | inr q ↦ (let at : doubled (point_of_node k e) ≡ d = ap doubled (sym ends) ∙ one_point (doubled (end_point w)) d (and_parts (not to.is_free) (are_one (doubled (end_point w)) d) q).1 in
+        inr (at, is_end t v d e i to_stands at j))
+  ]
 
   cleared : (m : ℕ) → is_standing k m ≡ true → In (doubled (point_of_node k m)) (doubled_of w) → (m ≡ n) ⊎ (m ≡ e)
   cleared m stands i = which (on_walk w (point_of_node k m) i)

@@ -25,17 +25,13 @@ use Rattle.run_laying.proofs.Whole.{whole_legal, IsComplete}
 
 -- no segment leads from a node to itself
 pub no_loop : (graph : GraphParts) → IsConsistent graph → (n : NodeId) (t : ChainStep) → t.seg.0 < length graph.ends → LeadsTo graph n t → t.to.0 ≡ n.0 → ⊥
-no_loop graph fit n t below leads same = by_way leads
-  where
-    none : NodeId
-    none = record { 0 = 0 }
-
-    are : AreEnds (length graph.kinds) (ends_of graph t.seg)
-    are = fit.ends t.seg.0 (none, none) below
-
-    by_way : LeadsTo graph n t → ⊥
-    by_way (inl e) = let order : n.0 < t.to.0 = subst (λ (p : NodeId × NodeId). p.0.0 < p.1.0) e are.0 in omega (arith, order, same)
-    by_way (inr e) = let order : t.to.0 < n.0 = subst (λ (p : NodeId × NodeId). p.0.0 < p.1.0) e are.0 in omega (arith, order, same)
+no_loop graph fit n t below leads same =
+    let are : AreEnds (length graph.kinds) (ends_of graph t.seg) =
+    fit.ends t.seg.0 (record { 0 = 0 }, record { 0 = 0 }) below in
+    elim leads [
+      | inl e ↦ (let order : n.0 < t.to.0 = subst (λ (p : NodeId × NodeId). p.0.0 < p.1.0) e are.0 in omega (arith, order, same))
+      | inr e ↦ (let order : t.to.0 < n.0 = subst (λ (p : NodeId × NodeId). p.0.0 < p.1.0) e are.0 in omega (arith, order, same))
+    ]
 
 pub first_leads : (graph : GraphParts) (n : NodeId) (t : ChainStep) (ts : List ChainStep) → AreSteps graph n (t ∷ ts) → (t.seg.0 < length graph.ends) × LeadsTo graph n t
 first_leads graph n t [] steps = steps

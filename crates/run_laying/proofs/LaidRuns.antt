@@ -30,7 +30,8 @@ same_walk graph n (t ∷ ts) [] k s off = refl
 same_walk graph n (t ∷ ts) (v ∷ vs) k s off =
     same_walk graph t.to ts vs (with_piece graph n t v k) s (λ q m e. off q (inr m) e) ∙ get_or-set_other k.walks t.seg.0 s.0 (Some (from_low graph t.seg n v)) None (λ e. off t (inl refl) (sym e))
 
-still_raised : (flags : List Bool) (i m : ℕ) → get_or flags m false ≡ true → get_or (set flags i true) m false ≡ true
+pub still_raised : (flags : List Bool) (i m : ℕ) → get_or flags m false ≡ true
+    → get_or (set flags i true) m false ≡ true
 still_raised [] i m e = e
 still_raised (b ∷ bs) zero zero e = refl
 still_raised (b ∷ bs) zero (suc m) e = e

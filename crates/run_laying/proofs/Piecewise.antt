@@ -147,11 +147,10 @@ module _ (graph : GraphParts) (fit : IsConsistent graph) (k : Sketch) (h : IsLeg
       off s y i m (inr at) = neither (doubled p) refl (inr at.0)
 
       away : (m : ℕ) → is_standing k m ≡ true → point_of_node k m ≡ p → ⊥
-      away m stands same = which (f.clear m stands (subst (λ (q : GridPoint). In (doubled q) (doubled_of w)) (sym same) (in_first w v rest split (doubled p) p_in_first)))
-        where
-          which : (m ≡ n.0) ⊎ (m ≡ e) → ⊥
-          which (inl i) = neither (doubled p) refl (inl (ap doubled (ap (point_of_node k) (sym i) ∙ same)))
-          which (inr i) = neither (doubled p) refl (inr (ap doubled (ap (point_of_node k) (sym i) ∙ same)))
+      away m stands same = elim (f.clear m stands (subst (λ (q : GridPoint). In (doubled q) (doubled_of w)) (sym same) (in_first w v rest split (doubled p) p_in_first))) [
+        | inl i ↦ neither (doubled p) refl (inl (ap doubled (ap (point_of_node k) (sym i) ∙ same)))
+        | inr i ↦ neither (doubled p) refl (inr (ap doubled (ap (point_of_node k) (sym i) ∙ same)))
+      ]
 
   h1 : IsLegalSketch graph k1
   h1 = stood_legal graph k t.to p h open_at
@@ -286,11 +285,10 @@ module _ (graph : GraphParts) (fit : IsConsistent graph) (k : Sketch) (h : IsLeg
 
       end_beside : (s : SegId) → In s (get_or graph.rounds e []) → s.0 ≡ t.seg.0 → ⊥
       end_beside s m same =
-          which (turned_ends graph t.seg n.0 t.to.0 v x turned e (subst (λ (q : SegId). IsEndOf graph q e) (same_seg s t.seg same) (ends_round graph fit e (stands_below graph k h e f.to_stands) s m)))
-        where
-          which : (e ≡ n.0) ⊎ (e ≡ t.to.0) → ⊥
-          which (inl i) = f.differ (sym i)
-          which (inr i) = true≢false (sym f.to_stands ∙ ap (is_standing k) i ∙ lifted)
+          elim (turned_ends graph t.seg n.0 t.to.0 v x turned e (subst (λ (q : SegId). IsEndOf graph q e) (same_seg s t.seg same) (ends_round graph fit e (stands_below graph k h e f.to_stands) s m))) [
+            | inl i ↦ f.differ (sym i)
+            | inr i ↦ true≢false (sym f.to_stands ∙ ap (is_standing k) i ∙ lifted)
+          ]
 
       at_end : (d : Dir) → end_port rest ≡ Some d → are_clockwise (filter_map (with_port l d (port_at_node graph (board_under k2) e)) (get_or graph.rounds e [])) ≡ true
       at_end d is =

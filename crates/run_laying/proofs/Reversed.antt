@@ -1,10 +1,9 @@
 -- A walk from its end to its start: the same points, and the ports exchanged.
-use Rattle.std.proofs.Common.{◌≡◌, refl, sym, ◌∙◌, ap, ap₂, subst, Bool, true, ◌⊎◌, inl, inr, List, [], ◌∷◌, ◌++◌, map, reverse, Some, slice_get, option_map, ℤ, pos, ◌+ℤ◌, arith}
+use Rattle.std.proofs.Common.{◌≡◌, refl, sym, ◌∙◌, ap, ap₂, subst, Bool, true, inl, inr, List, [], ◌∷◌, ◌++◌, map, reverse, Some, slice_get, option_map, ℤ, pos, ◌+ℤ◌, arith}
 use Rattle.std.specs.List.{list_all}
 use Rattle.std.proofs.lemmas.Int.{ints}
 use Rattle.std.proofs.lemmas.List.{map-append, reverse-append}
 use Rattle.octi_grid.specs.declared.dir.Dir.{Dir}
-use Rattle.octi_grid.specs.declared.dir.Dir.TheVariants as dir
 use Rattle.octi_grid.specs.declared.point.GridPoint.{GridPoint}
 use Rattle.octi_grid.specs.Ways.{after, doubled, doubled_from, east_of, north_of, points_from, reverse_of, step_from}
 use Rattle.octi_grid.specs.Walks.{doubled_of, end_point, end_port, last_of, points_of, start_port, PlainWalk}
@@ -12,7 +11,7 @@ use Rattle.octi_grid.specs.Legal.{are_distinct}
 use Rattle.octi_grid.proofs.Members.{all_at, all_from, in_append, in_left, in_right, In}
 use Rattle.octi_grid.proofs.MeetsLemmas.{distinct_not_later, distinct_push, distinct_rest}
 use Rattle.octi_grid.proofs.WayLemmas.{after-append, same_point}
-use Rattle.walk_search.proofs.Turning.{step_back}
+use Rattle.walk_search.proofs.Turning.{step_back, east_back, north_back, of_eight}
 use Rattle.run_laying.specs.Pieces.{reversed_walk}
 
 -- directions back
@@ -23,34 +22,7 @@ turned-cons : (d : Dir) (ds : List Dir) → turned (d ∷ ds) ≡ turned ds ++ r
 turned-cons d ds = ap (map reverse_of) (reverse-append (d ∷ []) ds) ∙ map-append reverse_of (reverse ds) (d ∷ [])
 
 pub twice : (d : Dir) → reverse_of (reverse_of d) ≡ d
-twice dir.N = refl
-twice dir.NE = refl
-twice dir.E = refl
-twice dir.SE = refl
-twice dir.S = refl
-twice dir.SW = refl
-twice dir.W = refl
-twice dir.NW = refl
-
-east_back : (d : Dir) → (east_of d +ℤ east_of (reverse_of d)) ≡ pos 0
-east_back dir.N = refl
-east_back dir.NE = refl
-east_back dir.E = refl
-east_back dir.SE = refl
-east_back dir.S = refl
-east_back dir.SW = refl
-east_back dir.W = refl
-east_back dir.NW = refl
-
-north_back : (d : Dir) → (north_of d +ℤ north_of (reverse_of d)) ≡ pos 0
-north_back dir.N = refl
-north_back dir.NE = refl
-north_back dir.E = refl
-north_back dir.SE = refl
-north_back dir.S = refl
-north_back dir.SW = refl
-north_back dir.W = refl
-north_back dir.NW = refl
+twice = of_eight (λ d. reverse_of (reverse_of d) ≡ d) refl refl refl refl refl refl refl refl
 
 -- where they lead, and over what
 pub back_to : (p : GridPoint) (ds : List Dir) → after (after p ds) (turned ds) ≡ p
@@ -103,20 +75,19 @@ points_back p (d ∷ ds) =
 -- lists from back to front
 in_back : (xs : List GridPoint) (x : GridPoint) → In x (reverse xs) → In x xs
 in_back [] x m = m
-in_back (y ∷ ys) x m = which (λ k. in_back ys x k) (in_append x (reverse ys) (y ∷ []) (subst (λ (v : List GridPoint). In x v) (reverse-append (y ∷ []) ys) m))
-  where
-    which : (In x (reverse ys) → In x ys) → In x (reverse ys) ⊎ In x (y ∷ []) → In x (y ∷ ys)
-    which rest (inl k) = inr (rest k)
-    which rest (inr (inl e)) = inl e
-    which rest (inr (inr n)) = absurd n
+in_back (y ∷ ys) x m =
+    elim (in_append x (reverse ys) (y ∷ []) (subst (λ (v : List GridPoint). In x v) (reverse-append (y ∷ []) ys) m)) [
+      | inl k ↦ inr (in_back ys x k)
+      | inr k ↦ elim k [ inl e ↦ inl e | inr n ↦ absurd n ]
+    ]
 
 to_back : (xs : List GridPoint) (x : GridPoint) → In x xs → In x (reverse xs)
 to_back [] x m = m
-to_back (y ∷ ys) x m = subst (λ (v : List GridPoint). In x v) (sym (reverse-append (y ∷ []) ys)) (which (λ k. to_back ys x k) m)
-  where
-    which : (In x ys → In x (reverse ys)) → In x (y ∷ ys) → In x (reverse ys ++ y ∷ [])
-    which rest (inl e) = in_right x (reverse ys) (y ∷ []) (inl e)
-    which rest (inr k) = in_left x (reverse ys) (y ∷ []) (rest k)
+to_back (y ∷ ys) x (inl e) =
+    subst (λ (v : List GridPoint). In x v) (sym (reverse-append (y ∷ []) ys)) (in_right x (reverse ys) (y ∷ []) (inl e))
+to_back (y ∷ ys) x (inr m) =
+    subst (λ (v : List GridPoint). In x v) (sym (reverse-append (y ∷ []) ys))
+    (in_left x (reverse ys) (y ∷ []) (to_back ys x m))
 
 distinct_back : (ps : List GridPoint) → are_distinct ps ≡ true → are_distinct (reverse ps) ≡ true
 distinct_back [] e = refl

@@ -74,35 +74,23 @@ leads_to graph n t (inl e) = inr (ap (λ (p : NodeId × NodeId). p.1.0) e)
 leads_to graph n t (inr e) = inl (ap (λ (p : NodeId × NodeId). p.0.0) e)
 
 pub end_below : (graph : GraphParts) → IsConsistent graph → (s : SegId) (n : ℕ) → s.0 < length graph.ends → IsEndOf graph s n → n < length graph.kinds
-end_below graph fit s n below is_end = by_end is_end
-  where
-    none : NodeId
-    none = record { 0 = 0 }
-
-    are : AreEnds (length graph.kinds) (ends_of graph s)
-    are = fit.ends s.0 (none, none) below
-
-    by_end : IsEndOf graph s n → n < length graph.kinds
-    by_end (inl e) = omega (arith, are.0, are.1, e)
-    by_end (inr e) = omega (arith, are.1, e)
+end_below graph fit s n below is_end =
+    let are : AreEnds (length graph.kinds) (ends_of graph s) =
+    fit.ends s.0 (record { 0 = 0 }, record { 0 = 0 }) below in
+    elim is_end [ inl e ↦ omega (arith, are.0, are.1, e) | inr e ↦ omega (arith, are.1, e) ]
 
 -- a node at which two segments alone meet is the end of no other
 pub only_two : (graph : GraphParts) → IsConsistent graph → (s r : SegId) (m : NodeId) (q : SegId) → MeetAlone graph s m r → m.0 < length graph.kinds → q.0 < length graph.ends → IsEndOf graph q m.0 → (q ≡ s) ⊎ (q ≡ r)
 only_two graph fit s r m q alone node below is_end = by_round alone (in_round graph fit q m.0 below node is_end)
   where
+    one_of : (u v : SegId) → In q (u ∷ v ∷ []) → (q ≡ u) ⊎ (q ≡ v)
+    one_of u v (inl f) = inl f
+    one_of u v (inr (inl f)) = inr f
+    one_of u v (inr (inr n)) = absurd n
+
     by_round : MeetAlone graph s m r → In q (round_of graph m) → (q ≡ s) ⊎ (q ≡ r)
-    by_round (inl e) i = which (subst (λ (v : List SegId). In q v) e i)
-      where
-        which : In q (s ∷ r ∷ []) → (q ≡ s) ⊎ (q ≡ r)
-        which (inl f) = inl f
-        which (inr (inl f)) = inr f
-        which (inr (inr n)) = absurd n
-    by_round (inr e) i = which (subst (λ (v : List SegId). In q v) e i)
-      where
-        which : In q (r ∷ s ∷ []) → (q ≡ s) ⊎ (q ≡ r)
-        which (inl f) = inr f
-        which (inr (inl f)) = inl f
-        which (inr (inr n)) = absurd n
+    by_round (inl e) i = one_of s r (subst (λ (v : List SegId). In q v) e i)
+    by_round (inr e) i = elim (one_of r s (subst (λ (v : List SegId). In q v) e i)) [ inl f ↦ inr f | inr f ↦ inl f ]
 
 -- a node between two steps, with both
 pub record IsInner (graph : GraphParts) (ts : List ChainStep) (m : NodeId) : Type 0 where
@@ -143,8 +131,8 @@ step_of graph n (t ∷ u ∷ us) steps q (inr m) = step_of graph t.to (u ∷ us)
 
 -- so a node between steps is the end of no segment off the run
 pub inner_off : (graph : GraphParts) → IsConsistent graph → (ts : List ChainStep) (m : NodeId) → IsInner graph ts m → (q : SegId) → q.0 < length graph.ends → IsOff ts q → IsEndOf graph q m.0 → ⊥
-inner_off graph fit ts m i q below off is_end = which (only_two graph fit i.before.seg i.after.seg m q i.alone i.node below is_end)
-  where
-    which : (q ≡ i.before.seg) ⊎ (q ≡ i.after.seg) → ⊥
-    which (inl e) = off i.before i.on_before (ap (λ (s : SegId). s.0) (sym e))
-    which (inr e) = off i.after i.on_after (ap (λ (s : SegId). s.0) (sym e))
+inner_off graph fit ts m i q below off is_end =
+    elim (only_two graph fit i.before.seg i.after.seg m q i.alone i.node below is_end) [
+      | inl e ↦ off i.before i.on_before (ap (λ (s : SegId). s.0) (sym e))
+      | inr e ↦ off i.after i.on_after (ap (λ (s : SegId). s.0) (sym e))
+    ]

@@ -1,5 +1,5 @@
 -- What the board of a legal sketch shows: the points of the nodes that stand, and the doubled points of the walks.
-use Rattle.std.proofs.Common.{◌≡◌, refl, sym, ◌∙◌, ap, ℕ, zero, suc, ◌<◌, ◌≤◌, Bool, true, false, List, [], ◌∷◌, length, get_or, Option, Some, None, ◌⊎◌, inl, inr, arith}
+use Rattle.std.proofs.Common.{◌≡◌, refl, sym, ◌∙◌, ap, ℕ, zero, suc, ◌<◌, Bool, true, false, List, [], ◌∷◌, length, get_or, Option, Some, None, inl, inr, arith}
 use Rattle.std.proofs.lemmas.Bool.{cases_lt, true≢false}
 use Rattle.std.proofs.lemmas.List.{get_or_past, get_or-replicate}
 use Rattle.std.specs.List.{filter_map, list_any, zip}
@@ -62,11 +62,10 @@ shown_node k p e =
 
 -- a node that stands is one of the graph
 pub stands_below : (graph : GraphParts) (k : Sketch) → IsLegalSketch graph k → (n : ℕ) → is_standing k n ≡ true → n < length graph.kinds
-stands_below graph k h n stands = by_order (cases_lt n (length graph.kinds))
-  where
-    by_order : (n < length graph.kinds) ⊎ (length graph.kinds ≤ n) → n < length graph.kinds
-    by_order (inl below) = below
-    by_order (inr past) = absurd (true≢false (sym stands ∙ get_or_past k.stand n false (omega (arith, past, h.stand_each))))
+stands_below graph k h n stands = elim (cases_lt n (length graph.kinds)) [
+  | inl below ↦ below
+  | inr past ↦ absurd (true≢false (sym stands ∙ get_or_past k.stand n false (omega (arith, past, h.stand_each))))
+]
 
 -- and settled
 pub settled_there : (graph : GraphParts) (k : Sketch) → IsLegalSketch graph k → (n : ℕ) → is_standing k n ≡ true → is_settled (board_under k) n ≡ true

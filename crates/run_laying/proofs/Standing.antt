@@ -54,19 +54,14 @@ module _ (graph : GraphParts) (k : Sketch) (n : NodeId) (p : GridPoint) (h : IsL
 
   -- one that stands afterwards is the new one, or stood before
   pub which_stands : (m : ℕ) → is_standing (stood k n p) m ≡ true → (m ≡ n.0) ⊎ (is_standing k m ≡ true)
-  which_stands m stands = by_number (cases_eq m n.0)
-    where
-      by_number : (m ≡ n.0) ⊎ (m ≡ n.0 → ⊥) → (m ≡ n.0) ⊎ (is_standing k m ≡ true)
-      by_number (inl e) = inl e
-      by_number (inr f) = inr (sym (stands_other k n p m f) ∙ stands)
+  which_stands m stands = elim (cases_eq m n.0) [ inl e ↦ inl e | inr f ↦ inr (sym (stands_other k n p m f) ∙ stands) ]
 
   -- a fact of the new point, and of the points of nodes that stood, is one of all points
   holds_of : (test : GridPoint → Bool) → test p ≡ true → ((m : ℕ) → is_standing k m ≡ true → test (point_of_node k m) ≡ true) → (m : ℕ) → is_standing (stood k n p) m ≡ true → test (point_of_node (stood k n p) m) ≡ true
-  holds_of test here others m stands = by_node (which_stands m stands)
-    where
-      by_node : (m ≡ n.0) ⊎ (is_standing k m ≡ true) → test (point_of_node (stood k n p) m) ≡ true
-      by_node (inl e) = ap (λ i. test (point_of_node (stood k n p) i)) e ∙ ap test (point_new graph k n p h open_at.node) ∙ here
-      by_node (inr before) = ap test (still_there m before) ∙ others m before
+  holds_of test here others m stands = elim (which_stands m stands) [
+    | inl e ↦ ap (λ i. test (point_of_node (stood k n p) i)) e ∙ ap test (point_new graph k n p h open_at.node) ∙ here
+    | inr before ↦ ap test (still_there m before) ∙ others m before
+  ]
 
   own_then : (m q : ℕ) → is_standing (stood k n p) m ≡ true → is_standing (stood k n p) q ≡ true → point_of_node (stood k n p) m ≡ point_of_node (stood k n p) q → m ≡ q
   own_then m q stands stands_too same = by_nodes (which_stands m stands) (which_stands q stands_too)
@@ -89,12 +84,10 @@ module _ (graph : GraphParts) (k : Sketch) (n : NodeId) (p : GridPoint) (h : IsL
   }
 
   clear_then : (s : SegId) (w : PlainWalk) (m : ℕ) → walk_in k s ≡ Some w → is_standing (stood k n p) m ≡ true → is_among (doubled_of w) (doubled (point_of_node (stood k n p) m)) ≡ true → IsEndOf graph s m
-  clear_then s w m e stands met = by_node (which_stands m stands)
-    where
-      by_node : (m ≡ n.0) ⊎ (is_standing k m ≡ true) → IsEndOf graph s m
-      by_node (inl i) =
-          absurd (true≢false (sym met ∙ ap (λ (q : GridPoint). is_among (doubled_of w) (doubled q)) (ap (point_of_node (stood k n p)) i ∙ point_new graph k n p h open_at.node) ∙ open_at.off s w e))
-      by_node (inr before) = h.clear s w m e before (ap (λ (q : GridPoint). is_among (doubled_of w) (doubled q)) (sym (still_there m before)) ∙ met)
+  clear_then s w m e stands met = elim (which_stands m stands) [
+    | inl i ↦ absurd (true≢false (sym met ∙ ap (λ (q : GridPoint). is_among (doubled_of w) (doubled q)) (ap (point_of_node (stood k n p)) i ∙ point_new graph k n p h open_at.node) ∙ open_at.off s w e))
+    | inr before ↦ h.clear s w m e before (ap (λ (q : GridPoint). is_among (doubled_of w) (doubled q)) (sym (still_there m before)) ∙ met)
+  ]
 
   pub stood_legal : IsLegalSketch graph (stood k n p)
   stood_legal = record {

@@ -69,14 +69,11 @@ module _ (graph : GraphParts) (s : SegId) (n m : ℕ) (v x : PlainWalk) where
 -- the port of a segment that gets a walk, beside the others
 pub port_with : (graph : GraphParts) (k : Sketch) (s : SegId) (x : PlainWalk) (n : ℕ) (d : Dir) → length k.walks ≡ length graph.ends → s.0 < length graph.ends → port_by (ends_of graph s) n (Some x) ≡ Some d → (t : SegId)
     → port_at_node graph (board_under (with_walk_of k s (Some x))) n t ≡ with_port s d (port_at_node graph (board_under k) n) t
-port_with graph k s x n d each below e t = by_number (cases_eq s.0 t.0)
-  where
-    by_number : (s.0 ≡ t.0) ⊎ (s.0 ≡ t.0 → ⊥) → port_at_node graph (board_under (with_walk_of k s (Some x))) n t ≡ with_port s d (port_at_node graph (board_under k) n) t
-    by_number (inl i) =
-        subst (λ (u : SegId). port_at_node graph (board_under (with_walk_of k s (Some x))) n u ≡ with_port s d (port_at_node graph (board_under k) n) u) (same_seg s t i)
-        (ap (port_by (ends_of graph s) n) (walk_new graph k s (Some x) each below) ∙ e ∙ sym (ap (λ b. cond b (Some d) (port_at_node graph (board_under k) n s)) (eq-eqb s.0 s.0 refl)))
-    by_number (inr f) =
-        ap (port_by (ends_of graph t) n) (walk_other k s t (Some x) (λ i. f (sym i))) ∙ sym (ap (λ b. cond b (Some d) (port_at_node graph (board_under k) n t)) (ne_eqb s.0 t.0 f))
+port_with graph k s x n d each below e t = elim (cases_eq s.0 t.0) [
+  | inl i ↦ subst (λ (u : SegId). port_at_node graph (board_under (with_walk_of k s (Some x))) n u ≡ with_port s d (port_at_node graph (board_under k) n) u) (same_seg s t i)
+      (ap (port_by (ends_of graph s) n) (walk_new graph k s (Some x) each below) ∙ e ∙ sym (ap (λ b. cond b (Some d) (port_at_node graph (board_under k) n s)) (eq-eqb s.0 s.0 refl)))
+  | inr f ↦ ap (port_by (ends_of graph t) n) (walk_other k s t (Some x) (λ i. f (sym i))) ∙ sym (ap (λ b. cond b (Some d) (port_at_node graph (board_under k) n t)) (ne_eqb s.0 t.0 f))
+]
 
 pub clockwise_with : (graph : GraphParts) (k : Sketch) (s : SegId) (x : PlainWalk) (n : ℕ) (d : Dir) → length k.walks ≡ length graph.ends → s.0 < length graph.ends → port_by (ends_of graph s) n (Some x) ≡ Some d
     → are_clockwise (filter_map (with_port s d (port_at_node graph (board_under k) n)) (get_or graph.rounds n [])) ≡ true → AreClockwiseAt graph (with_walk_of k s (Some x)) n

@@ -1,5 +1,5 @@
 -- What routing again keeps: nodes stay, other segments keep their walks, and walks stay on the board.
-use Rattle.std.proofs.Common.{◌≡◌, ◌∙◌, ℕ, ◌<◌, true, List, [], ◌∷◌, length, Option, Some, None, Ok, subst, refl, ◌⊎◌, inl, inr}
+use Rattle.std.proofs.Common.{◌≡◌, ◌∙◌, ℕ, ◌<◌, true, List, [], ◌∷◌, length, Option, Some, None, Ok, subst, refl, inl, inr}
 use Rattle.std.specs.List.{list_all}
 use Rattle.map_base.specs.declared.ids.SegId.{SegId}
 use Rattle.graph_core.specs.declared.parts.GraphParts.{GraphParts}
@@ -23,11 +23,10 @@ pub record IsAgain (graph : GraphParts) (bounds : Bounds) (order : List SegId) (
 
 module _ (graph : GraphParts) (fit : IsConsistent graph) (bounds : Bounds) where
   within_more : (r : Routed) (s : SegId) (w : PlainWalk) → Goes graph r s w → r.board.bounds ≡ bounds → AllWithin bounds r → AllWithin bounds (with_route graph r s w)
-  within_more r s w g same all t v e = by_walk (which_walk graph r s w g t v e)
-    where
-      by_walk : ((t.0 ≡ s.0) × (w ≡ v)) ⊎ ((t.0 ≡ s.0 → ⊥) × (walk_at r t ≡ Some v)) → list_all (contains bounds) (points_of v) ≡ true
-      by_walk (inl k) = subst (λ (x : PlainWalk). list_all (contains bounds) (points_of x) ≡ true) k.1 (subst (λ (b : Bounds). list_all (contains b) (points_of w) ≡ true) same g.route.inside)
-      by_walk (inr k) = all t v k.1
+  within_more r s w g same all t v e = elim (which_walk graph r s w g t v e) [
+    | inl k ↦ subst (λ (x : PlainWalk). list_all (contains bounds) (points_of x) ≡ true) k.1 (subst (λ (b : Bounds). list_all (contains b) (points_of w) ≡ true) same g.route.inside)
+    | inr k ↦ all t v k.1
+  ]
 
   pub again : (order : List SegId) (old r : Routed) → IsLaid graph old → ((s : SegId) → In s order → s.0 < length graph.ends) → old.board.bounds ≡ bounds → AllWithin bounds old
       → route_each graph order old ≡ Ok r → IsAgain graph bounds order old r

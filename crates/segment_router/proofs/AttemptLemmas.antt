@@ -1,6 +1,7 @@
 -- Attempts, one after another.
 use Rattle.std.proofs.Common.{◌≡◌, refl, sym, ◌∙◌, ap, ℕ, ◌+◌, ◌<◌, ◌≤◌, Bool, true, false, cond, leb, List, [], ◌∷◌, ◌++◌, length, get_or, drop, Some, None, Result, Ok, Err, is_ok, append_assoc, append-nil, arith}
 use Rattle.std.specs.List.{AllByRecursion, filter, flat_map}
+use Rattle.std.proofs.lemmas.Bool.{cond_both}
 use Rattle.std.proofs.lemmas.List.{drop_more}
 use Rattle.map_base.specs.declared.ids.SegId.{SegId}
 use Rattle.map_base.specs.declared.point.Point.{Point}
@@ -33,16 +34,6 @@ pub drawn_now : (graph : GraphParts) (cell : ℕ) (outcome : Result (List PlainW
 drawn_now graph cell (Ok walks) [] e = refl
 drawn_now graph cell (Ok walks) (b ∷ rest) e = refl
 drawn_now graph cell (Err s) rest e = cc
-
-none_yet : (graph : GraphParts) (cell : ℕ) (outcome : Result (List PlainWalk) SegId) (b : Attempt) (rest : List Attempt) → is_ok outcome ≡ false
-    → first_drawn graph cell outcome (b ∷ rest) ≡ first_drawn graph cell (routes_at graph cell b) rest
-none_yet graph cell (Ok walks) b rest e = cc
-none_yet graph cell (Err s) b rest e = refl
-
-pub drawn_next : (graph : GraphParts) (cell : ℕ) (outcome : Result (List PlainWalk) SegId) (rest : List Attempt) (i : ℕ) (d : Attempt) → is_ok outcome ≡ false → i < length rest
-    → first_drawn graph cell outcome (drop i rest) ≡ first_drawn graph cell (routes_at graph cell (get_or rest i d)) (drop (i + 1) rest)
-drawn_next graph cell outcome rest i d e h =
-    ap (first_drawn graph cell outcome) (drop_more rest i d h) ∙ none_yet graph cell outcome (get_or rest i d) (drop (i + 1) rest) e
 
 -- where there is no limit, the cell is not too small
 pub no_limit : (ps : List Point) (cell : ℕ) → limit_of ps cell ≡ None → is_too_fine ps cell ≡ false
@@ -115,11 +106,9 @@ all_both P (x ∷ xs) ys a b = (a.0, all_both P xs ys a.1 b)
 
 all_filtered : {X : Type 0} (P : X → Type 0) (p : X → Bool) (xs : List X) → AllByRecursion P xs → AllByRecursion P (filter p xs)
 all_filtered P p [] a = tt
-all_filtered P p (x ∷ xs) a = by_test (p x) (a.0, all_filtered P p xs a.1)
-  where
-    by_test : (t : Bool) → P x × AllByRecursion P (filter p xs) → AllByRecursion P (cond t (x ∷ filter p xs) (filter p xs))
-    by_test true both = both
-    by_test false both = both.1
+all_filtered P p (x ∷ xs) a =
+    let rest = all_filtered P p xs a.1 in
+    cond_both (p x) (x ∷ filter p xs) (filter p xs) (AllByRecursion P) (λ e. (a.0, rest)) (λ e. rest)
 
 all_flat : {X Y : Type 0} (f : X → List Y) (P : X → Type 0) (Q : Y → Type 0) (xs : List X) → ((x : X) → P x → AllByRecursion Q (f x)) → AllByRecursion P xs → AllByRecursion Q (flat_map f xs)
 all_flat f P Q [] each a = tt

@@ -1,5 +1,5 @@
 -- Routing begins with each node at home.
-use Rattle.std.proofs.Common.{◌≡◌, ℕ, zero, suc, ◌<◌, ◌≤◌, true, false, pos, List, [], ◌∷◌, length, get_or, replicate, Option, Some, None, sym, refl, ap, subst, ◌∙◌, arith, ◌⊎◌, inl, inr}
+use Rattle.std.proofs.Common.{◌≡◌, ℕ, zero, suc, ◌<◌, true, false, pos, List, [], ◌∷◌, length, get_or, replicate, Option, Some, None, sym, refl, ap, subst, ◌∙◌, arith, inl, inr}
 use Rattle.std.proofs.lemmas.Bool.{and_parts, cases_lt, or_left, or_right, not-true, true≢false}
 use Rattle.std.proofs.lemmas.List.{get_or-replicate, get_or_past, length-replicate}
 use Rattle.graph_core.specs.declared.parts.GraphParts.{GraphParts}
@@ -47,11 +47,10 @@ distinct_places (q ∷ ps) (suc n) (suc m) d e h k same = ap suc (distinct_place
 
 -- nothing is there in a list of nothing
 pub nothing_there : {X : Type 0} (n i : ℕ) → (let none : Option X = None in get_or (replicate n none) i none) ≡ None
-nothing_there {X} n i = by_order (cases_lt i n)
-  where
-    by_order : (i < n) ⊎ (n ≤ i) → (let none : Option X = None in get_or (replicate n none) i none) ≡ None
-    by_order (inl h) = get_or-replicate n i None None h
-    by_order (inr h) = get_or_past (replicate n None) i None (omega (arith, length-replicate n (let none : Option X = None in none)))
+nothing_there {X} n i = elim (cases_lt i n) [
+  | inl h ↦ get_or-replicate n i None None h
+  | inr h ↦ get_or_past (replicate n None) i None (omega (arith, h, length-replicate n (let none : Option X = None in none)))
+]
 
 pub underway_begins : (graph : GraphParts) → (placing : Placing) → IsPlacing graph placing → IsUnderway graph (none_routed (grid_under placing) placing.points (length graph.ends))
 underway_begins graph placing fit = record {

@@ -1,5 +1,5 @@
 -- Ports that are spaced stand clockwise, and the bit of an allowed port tells that it is allowed.
-use Rattle.std.proofs.Common.{◌≡◌, ℕ, ◌+◌, ◌-◌, ◌%◌, ◌<◌, ◌≤◌, Bool, true, false, cond, not, eqb, leb, ◌&&◌, List, [], ◌∷◌, map, Option, Some, None, sym, refl, ap, ◌∙◌, arith, inl, inr}
+use Rattle.std.proofs.Common.{◌≡◌, ℕ, ◌+◌, ◌-◌, ◌%◌, ◌<◌, ◌≤◌, Bool, true, false, cond, not, eqb, leb, ◌&&◌, List, [], ◌∷◌, map, Option, Some, None, sym, refl, ap, ◌∙◌, arith, subst}
 use Rattle.std.proofs.lemmas.Bool.{and_from, and_parts, eqb-true, lt-ltb, false≢true}
 use Rattle.std.specs.Int.{bit_at}
 use Rattle.std.specs.List.{cons_option, filter_map, list_all}
@@ -11,9 +11,10 @@ use Rattle.octi_grid.specs.Legal.{are_clockwise, are_rising}
 use Rattle.octi_grid.specs.Ways.{number_of}
 use Rattle.octi_grid.proofs.Members.{all_at, In}
 use Rattle.walk_search.specs.Routes.{allows, directions}
-use Rattle.walk_search.proofs.Turning.{number_below}
+use Rattle.walk_search.proofs.Turning.{number_below, direction-number_of, of_eight}
 use Rattle.segment_router.specs.Ports.{are_spaced, distance_to, gaps_to, mask_of, stops_from, turned_over, with_stop, Stop}
 use Rattle.segment_router.proofs.MaskLemmas.{mask_agree}
+use Rattle.segment_router.proofs.Places.{in_at}
 
 -- from one port to the next, and both from a first one
 clock_numbers : (a b c : ℕ) → a < 8 → b < 8 → c < 8 → (b + 8 - a) % 8 + ((c + 7 - b) % 8 + 1) ≤ 7 → (c + 8 - a) % 8 ≡ (b + 8 - a) % 8 + ((c + 7 - b) % 8 + 1)
@@ -23,14 +24,7 @@ clock_step : (f s t : Dir) → clockwise_from f s + distance_to s t ≤ 7 → cl
 clock_step f s t few = clock_numbers (number_of f) (number_of s) (number_of t) (number_below f) (number_below s) (number_below t) few
 
 clock_self : (d : Dir) → 0 ≡ clockwise_from d d
-clock_self dir.N = refl
-clock_self dir.NE = refl
-clock_self dir.E = refl
-clock_self dir.SE = refl
-clock_self dir.S = refl
-clock_self dir.SW = refl
-clock_self dir.W = refl
-clock_self dir.NW = refl
+clock_self = of_eight (λ d. 0 ≡ clockwise_from d d) refl refl refl refl refl refl refl refl
 
 abbrev pub port_of_stop : Stop → Dir
 port_of_stop s = s.1
@@ -116,24 +110,13 @@ bits_of a b c d e f g h =
     all_bits a) b) c) d) e) f) g) h
 
 in_directions : (d : Dir) → In d directions
-in_directions dir.N = inl refl
-in_directions dir.NE = inr (inl refl)
-in_directions dir.E = inr (inr (inl refl))
-in_directions dir.SE = inr (inr (inr (inl refl)))
-in_directions dir.S = inr (inr (inr (inr (inl refl))))
-in_directions dir.SW = inr (inr (inr (inr (inr (inl refl)))))
-in_directions dir.W = inr (inr (inr (inr (inr (inr (inl refl))))))
-in_directions dir.NW = inr (inr (inr (inr (inr (inr (inr (inl refl)))))))
+in_directions d =
+    subst (λ (e : Dir). In e directions) (direction-number_of d) (in_at directions (number_of d) dir.N (number_below d))
 
 told : (test : Dir → Bool) (d : Dir) → test d ≡ test_of (test dir.N) (test dir.NE) (test dir.E) (test dir.SE) (test dir.S) (test dir.SW) (test dir.W) (test dir.NW) d
-told test dir.N = refl
-told test dir.NE = refl
-told test dir.E = refl
-told test dir.SE = refl
-told test dir.S = refl
-told test dir.SW = refl
-told test dir.W = refl
-told test dir.NW = refl
+told test =
+    of_eight (λ d. test d ≡ test_of (test dir.N) (test dir.NE) (test dir.E) (test dir.SE) (test dir.S) (test dir.SW) (test dir.W) (test dir.NW) d)
+    refl refl refl refl refl refl refl refl
 
 chosen_same : (b c : Bool) → cond b c (not c) ≡ true → b ≡ c
 chosen_same true true e = refl

@@ -1,6 +1,6 @@
 -- What holds of the walks that are laid so far: they meet each other and settled nodes at their own nodes alone.
-use Rattle.std.proofs.Common.{◌≡◌, ℕ, ◌<◌, Bool, true, false, not, ◌&&◌, List, [], ◌∷◌, length, get_or, set, pos, Some, sym, refl, ap, subst, ◌∙◌, arith, ◌⊎◌, inl, inr}
-use Rattle.std.proofs.lemmas.Bool.{and_parts, cases_Bool, cases_eq, or_cases, or_left, or_right, not-true, true≢false}
+use Rattle.std.proofs.Common.{◌≡◌, ℕ, ◌<◌, true, false, not, ◌&&◌, List, [], ◌∷◌, length, get_or, set, pos, Some, sym, refl, ap, subst, ◌∙◌, arith, ◌⊎◌, inl, inr}
+use Rattle.std.proofs.lemmas.Bool.{and_parts, cases_Bool, cases_eq, or_cases, or_left, or_right, not-true, true≢false, not-false}
 use Rattle.map_base.specs.declared.ids.NodeId.{NodeId}
 use Rattle.map_base.specs.declared.ids.SegId.{SegId}
 use Rattle.graph_core.specs.declared.parts.GraphParts.{GraphParts}
@@ -20,7 +20,7 @@ use Rattle.segment_router.specs.Underway.{IsUnderway}
 use Rattle.segment_router.proofs.ClearNodes.{walk_clear}
 use Rattle.segment_router.proofs.MaskLemmas.{free_mask}
 use Rattle.segment_router.proofs.RouteLemmas.{end_holds, start_holds}
-use Rattle.segment_router.proofs.SettledLemmas.{goes, low_point, other_point, other_settled, other_walk, own_walk, same_ends, underway_more, up_point, which_node, Goes}
+use Rattle.segment_router.proofs.SettledLemmas.{goes, low_point, other_point, other_settled, other_walk, own_walk, same_ends, underway_more, up_point, which_node, Goes, by_ends}
 
 -- the node is an end of the segment
 abbrev pub HasEnd : NodeId × NodeId → ℕ → Type 0
@@ -48,18 +48,16 @@ pub record IsLaid (graph : GraphParts) (r : Routed) : Type 0 where
 moved_board : (board : BoardParts) (from to : GridPoint) → IsBoard board → is_inside board to ≡ true → is_even to ≡ true → IsBoard (with_node_moved board from to)
 moved_board board from to fit inside even = record {
   in_range = fit.in_range;
-  nodes_inside = λ p e. by_inside p (or_cases _ _ e);
-  nodes_even = λ p e. by_even p (or_cases _ _ e);
+  nodes_inside = λ p e. elim (or_cases (are_one to p) (not (are_one from p) && board.is_node p) e) [
+    | inl h ↦ ap (is_inside board) (sym (one_point to p h)) ∙ inside
+    | inr h ↦ fit.nodes_inside p (and_parts _ _ h).1
+  ];
+  nodes_even = λ p e. elim (or_cases (are_one to p) (not (are_one from p) && board.is_node p) e) [
+    | inl h ↦ ap is_even (sym (one_point to p h)) ∙ even
+    | inr h ↦ fit.nodes_even p (and_parts _ _ h).1
+  ];
   ends_taken = fit.ends_taken;
 }
-  where
-    by_inside : (p : GridPoint) → (are_one to p ≡ true) ⊎ ((not (are_one from p) && board.is_node p) ≡ true) → is_inside board p ≡ true
-    by_inside p (inl e) = ap (is_inside board) (sym (one_point to p e)) ∙ inside
-    by_inside p (inr e) = fit.nodes_inside p (and_parts _ _ e).1
-
-    by_even : (p : GridPoint) → (are_one to p ≡ true) ⊎ ((not (are_one from p) && board.is_node p) ≡ true) → is_even p ≡ true
-    by_even p (inl e) = ap is_even (sym (one_point to p e)) ∙ even
-    by_even p (inr e) = fit.nodes_even p (and_parts _ _ e).1
 
 board_then : (graph : GraphParts) (r : Routed) (s : SegId) (w : PlainWalk) → Goes graph r s w → IsBoard r.board → IsBoard (with_route graph r s w).board
 board_then graph r s w g fit =
@@ -95,26 +93,20 @@ question_fits graph fit r underway board s w g = record {
 
 -- a settled node stays where it is
 pub fixed_point : (graph : GraphParts) (r : Routed) (s : SegId) (w : PlainWalk) → Goes graph r s w → (n : ℕ) → is_settled r n ≡ true → node_point (with_route graph r s w) n ≡ node_point r n
-fixed_point graph r s w g n settled = by_node (which_node (ends_of graph s).0.0 (ends_of graph s).1.0 n)
-  where
-    at : (m : ℕ) → n ≡ m → not (is_settled r m) ≡ false
-    at m e = ap (λ v. not (is_settled r v)) (sym e) ∙ ap not settled
-
-    by_node : (n ≡ (ends_of graph s).0.0) ⊎ ((n ≡ (ends_of graph s).1.0) ⊎ ((n ≡ (ends_of graph s).0.0 → ⊥) × (n ≡ (ends_of graph s).1.0 → ⊥))) → node_point (with_route graph r s w) n ≡ node_point r n
-    by_node (inl e) =
-        ap (node_point (with_route graph r s w)) e ∙ low_point graph r s w g ∙ g.route.at_start.of_settled (at (ends_of graph s).0.0 e) ∙ ap (node_point r) (sym e)
-    by_node (inr (inl e)) =
-        ap (node_point (with_route graph r s w)) e ∙ up_point graph r s w g ∙ g.route.at_end.of_settled (at (ends_of graph s).1.0 e) ∙ ap (node_point r) (sym e)
-    by_node (inr (inr f)) = other_point graph r s w n f.0 f.1
+fixed_point graph r s w g n settled =
+    by_ends (λ v. is_settled r v ≡ true → node_point (with_route graph r s w) v ≡ node_point r v) (ends_of graph s).0.0
+    (ends_of graph s).1.0 n
+    (λ t. low_point graph r s w g ∙ g.route.at_start.of_settled (ap not t))
+    (λ t. up_point graph r s w g ∙ g.route.at_end.of_settled (ap not t))
+    (λ f h t. other_point graph r s w n f h) settled
 
 -- the new walk, or one that was laid before
 pub which_walk : (graph : GraphParts) (r : Routed) (s : SegId) (w : PlainWalk) → Goes graph r s w → (t : SegId) (v : PlainWalk) → walk_at (with_route graph r s w) t ≡ Some v
     → ((t.0 ≡ s.0) × (w ≡ v)) ⊎ ((t.0 ≡ s.0 → ⊥) × (walk_at r t ≡ Some v))
-which_walk graph r s w g t v e = by_number (cases_eq t.0 s.0)
-  where
-    by_number : (t.0 ≡ s.0) ⊎ (t.0 ≡ s.0 → ⊥) → ((t.0 ≡ s.0) × (w ≡ v)) ⊎ ((t.0 ≡ s.0 → ⊥) × (walk_at r t ≡ Some v))
-    by_number (inl h) = let both : Some w ≡ Some v = sym (own_walk graph r s w g t h) ∙ e in inl (h, cc)
-    by_number (inr f) = inr (f, sym (other_walk graph r s w t f) ∙ e)
+which_walk graph r s w g t v e = elim (cases_eq t.0 s.0) [
+  | inl h ↦ (let both : Some w ≡ Some v = sym (own_walk graph r s w g t h) ∙ e in inl (h, cc))
+  | inr f ↦ inr (f, sym (other_walk graph r s w t f) ∙ e)
+]
 
 -- the ends of a walk that was laid are settled
 old_end_settled : (graph : GraphParts) (r : Routed) → IsUnderway graph r → (t : SegId) (v : PlainWalk) → walk_at r t ≡ Some v → (n : ℕ) → HasEnd (ends_of graph t) n → is_settled r n ≡ true
@@ -129,19 +121,15 @@ pub record AtSettledEnd (graph : GraphParts) (r : Routed) (s : SegId) (d : GridP
   pub settled : is_settled r node ≡ true
   pub there : doubled (node_point r node) ≡ d
 
-not_free : (b : Bool) → not (not b) ≡ true → b ≡ true
-not_free true e = refl
-not_free false e = e
-
 at_settled_end : (graph : GraphParts) (r : Routed) (s : SegId) (w : PlainWalk) → Goes graph r s w → (d : GridPoint) → In d (doubled_of w) → r.board.is_taken d ≡ true → AtSettledEnd graph r s d
-at_settled_end graph r s w g d m taken = by_end (or_cases _ _ (g.route.clear d m taken))
+at_settled_end graph r s w g d m taken = elim (or_cases (not (not (is_settled r (ends_of graph s).0.0)) && are_one (doubled w.start) d) (not (not (is_settled r (ends_of graph s).1.0)) && are_one (doubled (end_point w)) d) (g.route.clear d m taken)) [
+  | inl e ↦ low_end (and_parts _ _ e)
+  | inr e ↦ up_end (and_parts _ _ e)
+]
   where
-    lo : ℕ
-    lo = (ends_of graph s).0.0
-
     low_end : (not (not (is_settled r (ends_of graph s).0.0)) ≡ true) × (are_one (doubled w.start) d ≡ true) → AtSettledEnd graph r s d
     low_end (e, f) =
-        let settled : is_settled r (ends_of graph s).0.0 ≡ true = not_free _ e in
+        let settled : is_settled r (ends_of graph s).0.0 ≡ true = not-false _ (not-true _ e) in
         record {
           node = (ends_of graph s).0.0;
           of_segment = inl refl;
@@ -152,7 +140,7 @@ at_settled_end graph r s w g d m taken = by_end (or_cases _ _ (g.route.clear d m
 
     up_end : (not (not (is_settled r (ends_of graph s).1.0)) ≡ true) × (are_one (doubled (end_point w)) d ≡ true) → AtSettledEnd graph r s d
     up_end (e, f) =
-        let settled : is_settled r (ends_of graph s).1.0 ≡ true = not_free _ e in
+        let settled : is_settled r (ends_of graph s).1.0 ≡ true = not-false _ (not-true _ e) in
         record {
           node = (ends_of graph s).1.0;
           of_segment = inr refl;
@@ -160,10 +148,6 @@ at_settled_end graph r s w g d m taken = by_end (or_cases _ _ (g.route.clear d m
           settled = settled;
           there = ap doubled (sym (g.route.at_end.of_settled (ap not settled))) ∙ one_point (doubled (end_point w)) d f;
         }
-
-    by_end : ((not (not (is_settled r (ends_of graph s).0.0)) && are_one (doubled w.start) d) ≡ true) ⊎ ((not (not (is_settled r (ends_of graph s).1.0)) && are_one (doubled (end_point w)) d) ≡ true) → AtSettledEnd graph r s d
-    by_end (inl e) = low_end (and_parts _ _ e)
-    by_end (inr e) = up_end (and_parts _ _ e)
 
 -- the new walk and one that was laid before
 new_meeting : (graph : GraphParts) (r : Routed) (s : SegId) (w : PlainWalk) → Goes graph r s w → IsLaid graph r → (t : SegId) (v : PlainWalk) (d : GridPoint) → walk_at r t ≡ Some v → In d (doubled_of w) → In d (doubled_of v)
@@ -187,18 +171,17 @@ same_end graph s t e n h = subst (λ (p : NodeId × NodeId). HasEnd p n) (sym (s
 -- the new walk and a node
 new_clear : (graph : GraphParts) (r : Routed) (s : SegId) (w : PlainWalk) → Goes graph r s w → (n : ℕ) → n < length graph.kinds
     → In (doubled (node_point (with_route graph r s w) n)) (doubled_of w) → HasEnd (ends_of graph s) n
-new_clear graph r s w g n h m = by_node (which_node (ends_of graph s).0.0 (ends_of graph s).1.0 n)
-  where
-    by_node : (n ≡ (ends_of graph s).0.0) ⊎ ((n ≡ (ends_of graph s).1.0) ⊎ ((n ≡ (ends_of graph s).0.0 → ⊥) × (n ≡ (ends_of graph s).1.0 → ⊥))) → HasEnd (ends_of graph s) n
-    by_node (inl e) = inl (sym e)
-    by_node (inr (inl e)) = inr (sym e)
-    by_node (inr (inr f)) =
-        absurd (walk_clear graph r s w g n h f.0 f.1 (subst (λ p. In (doubled p) (doubled_of w)) (other_point graph r s w n f.0 f.1) m))
+new_clear graph r s w g n h m =
+    by_ends (HasEnd (ends_of graph s)) (ends_of graph s).0.0 (ends_of graph s).1.0 n (inl refl) (inr refl)
+    (λ f k. absurd (walk_clear graph r s w g n h f k (subst (λ p. In (doubled p) (doubled_of w)) (other_point graph r s w n f k) m)))
 
 -- a walk that was laid before and a node that is settled
 old_clear : (graph : GraphParts) (r : Routed) (s : SegId) (w : PlainWalk) → Goes graph r s w → IsLaid graph r → (t : SegId) (v : PlainWalk) (n : ℕ) → walk_at r t ≡ Some v → n < length graph.kinds
     → is_settled (with_route graph r s w) n ≡ true → In (doubled (node_point (with_route graph r s w) n)) (doubled_of v) → HasEnd (ends_of graph t) n
-old_clear graph r s w g laid t v n e h settled m = by_before (cases_Bool (is_settled r n))
+old_clear graph r s w g laid t v n e h settled m = elim (cases_Bool (is_settled r n)) [
+  | inl b ↦ laid.clear t v n e h b (subst (λ p. In (doubled p) (doubled_of v)) (fixed_point graph r s w g n b) m)
+  | inr f ↦ fresh f (which_node (ends_of graph s).0.0 (ends_of graph s).1.0 n)
+]
   where
     clash : r.board.is_taken (doubled (node_point (with_route graph r s w) n)) ≡ false → HasEnd (ends_of graph t) n
     clash f = absurd (true≢false (sym (laid.takes t v (doubled (node_point (with_route graph r s w) n)) e m) ∙ f))
@@ -209,10 +192,6 @@ old_clear graph r s w g laid t v n e h settled m = by_before (cases_Bool (is_set
     fresh f (inr (inl k)) =
         clash (ap (λ p. r.board.is_taken (doubled p)) (ap (node_point (with_route graph r s w)) k ∙ up_point graph r s w g) ∙ g.route.at_end.clear (ap (λ u. not (is_settled r u)) (sym k) ∙ ap not f))
     fresh f (inr (inr k)) = absurd (true≢false (sym settled ∙ other_settled graph r s w n k.0 k.1 ∙ f))
-
-    by_before : (is_settled r n ≡ true) ⊎ (is_settled r n ≡ false) → HasEnd (ends_of graph t) n
-    by_before (inl b) = laid.clear t v n e h b (subst (λ p. In (doubled p) (doubled_of v)) (fixed_point graph r s w g n b) m)
-    by_before (inr f) = fresh f (which_node (ends_of graph s).0.0 (ends_of graph s).1.0 n)
 
 -- what is taken afterwards
 taken_new : (graph : GraphParts) (r : Routed) (s : SegId) (w : PlainWalk) (d : GridPoint) → In d (doubled_of w) → (with_route graph r s w).board.is_taken d ≡ true

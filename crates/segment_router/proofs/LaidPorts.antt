@@ -29,17 +29,14 @@ ports_agree f h (t ∷ round) e =
 -- the ports afterwards
 port_then : (graph : GraphParts) (r : Routed) (s : SegId) (w : PlainWalk) → Goes graph r s w → (n : ℕ) (d : Dir) → port_by (ends_of graph s) n (Some w) ≡ Some d → (t : SegId)
     → port_at_node graph (with_route graph r s w) n t ≡ with_port s d (port_at_node graph r n) t
-port_then graph r s w g n d e t = by_number (cases_eq t.0 s.0)
-  where
-    by_number : (t.0 ≡ s.0) ⊎ (t.0 ≡ s.0 → ⊥) → port_at_node graph (with_route graph r s w) n t ≡ with_port s d (port_at_node graph r n) t
-    by_number (inl h) =
-        ap (port_by (ends_of graph t) n) (own_walk graph r s w g t h)
-        ∙ ap (λ (p : NodeId × NodeId). port_by p n (Some w)) (same_ends graph s t h)
-        ∙ e
-        ∙ sym (ap (λ b. cond b (Some d) (port_at_node graph r n t)) (eq-eqb s.0 t.0 (sym h)))
-    by_number (inr f) =
-        ap (port_by (ends_of graph t) n) (other_walk graph r s w t f)
-        ∙ sym (ap (λ b. cond b (Some d) (port_at_node graph r n t)) (ne_eqb s.0 t.0 (λ h. f (sym h))))
+port_then graph r s w g n d e t = elim (cases_eq t.0 s.0) [
+  | inl h ↦ ap (port_by (ends_of graph t) n) (own_walk graph r s w g t h)
+      ∙ ap (λ (p : NodeId × NodeId). port_by p n (Some w)) (same_ends graph s t h)
+      ∙ e
+      ∙ sym (ap (λ b. cond b (Some d) (port_at_node graph r n t)) (eq-eqb s.0 t.0 (sym h)))
+  | inr f ↦ ap (port_by (ends_of graph t) n) (other_walk graph r s w t f)
+      ∙ sym (ap (λ b. cond b (Some d) (port_at_node graph r n t)) (ne_eqb s.0 t.0 (λ h. f (sym h))))
+]
 
 -- a node at which the port of the new walk is allowed
 allowed_then : (graph : GraphParts) (r : Routed) (s : SegId) (w : PlainWalk) → Goes graph r s w → (n : ℕ)

@@ -1,12 +1,12 @@
 -- The routes of all segments are legal.
-use Rattle.std.proofs.Common.{◌≡◌, ℕ, zero, suc, ◌+◌, ◌<◌, true, false, eqb, ◌||◌, List, [], ◌∷◌, length, get_or, replicate, slice_get, Option, Some, None, Result, Ok, Err, sym, refl, ap, subst, ◌∙◌, arith, ◌⊎◌, inl, inr}
+use Rattle.std.proofs.Common.{◌≡◌, ℕ, zero, suc, ◌+◌, ◌<◌, true, eqb, ◌||◌, List, [], ◌∷◌, length, get_or, replicate, slice_get, Option, Some, None, Result, Ok, Err, sym, refl, ap, subst, ◌∙◌, arith, ◌⊎◌, inl, inr}
 use Rattle.std.proofs.lemmas.Bool.{and_from, and_parts, cases_Bool, cases_eq, eq-eqb, not_from_false, or_cases, or_left, or_right}
 use Rattle.std.specs.Prelude.{is_none}
 use Rattle.std.specs.List.{cons_option, filter_map, list_all, zip}
 use Rattle.map_base.specs.declared.ids.NodeId.{NodeId}
 use Rattle.map_base.specs.declared.ids.SegId.{SegId}
 use Rattle.graph_core.specs.declared.parts.GraphParts.{GraphParts}
-use Rattle.graph_core.specs.Consistent.{AreEnds, IsConsistent}
+use Rattle.graph_core.specs.Consistent.{IsConsistent}
 use Rattle.octi_grid.specs.declared.point.GridPoint.{GridPoint}
 use Rattle.octi_grid.specs.Ways.{are_one, doubled}
 use Rattle.octi_grid.specs.Walks.{doubled_of, end_point, PlainWalk}
@@ -36,18 +36,16 @@ use Rattle.segment_router.proofs.SettledLemmas.{goes, other_walk, own_walk}
 board_with_node : (board : BoardParts) (p : GridPoint) → IsBoard board → is_inside board p ≡ true → is_even p ≡ true → IsBoard (with_node board p)
 board_with_node board p fit inside even = record {
   in_range = fit.in_range;
-  nodes_inside = λ q e. by_inside q (or_cases _ _ e);
-  nodes_even = λ q e. by_even q (or_cases _ _ e);
+  nodes_inside = λ q e. elim (or_cases (are_one p q) (board.is_node q) e) [
+    | inl h ↦ ap (is_inside board) (sym (one_point p q h)) ∙ inside
+    | inr h ↦ fit.nodes_inside q h
+  ];
+  nodes_even = λ q e. elim (or_cases (are_one p q) (board.is_node q) e) [
+    | inl h ↦ ap is_even (sym (one_point p q h)) ∙ even
+    | inr h ↦ fit.nodes_even q h
+  ];
   ends_taken = fit.ends_taken;
 }
-  where
-    by_inside : (q : GridPoint) → (are_one p q ≡ true) ⊎ (board.is_node q ≡ true) → is_inside board q ≡ true
-    by_inside q (inl e) = ap (is_inside board) (sym (one_point p q e)) ∙ inside
-    by_inside q (inr e) = fit.nodes_inside q e
-
-    by_even : (q : GridPoint) → (are_one p q ≡ true) ⊎ (board.is_node q ≡ true) → is_even q ≡ true
-    by_even q (inl e) = ap is_even (sym (one_point p q e)) ∙ even
-    by_even q (inr e) = fit.nodes_even q e
 
 pub board_with_nodes : (homes : List GridPoint) (board : BoardParts) → IsBoard board → list_all (is_inside board) homes ≡ true → list_all is_even homes ≡ true → IsBoard (with_nodes board homes)
 board_with_nodes [] board fit inside even = fit
@@ -85,11 +83,8 @@ pub done : (graph : GraphParts) → IsConsistent graph → (order : List SegId) 
     → ((s : SegId) → In s order → s.0 < length graph.ends) → route_each graph order old ≡ Ok r → IsDone graph order old r
 done graph fit [] old r laid clockwise within e =
     let same : old ≡ r = cc in
-    subst (IsDone graph [] old) same (record { laid = laid; clockwise = clockwise; each = λ s h. kept s h })
-  where
-    kept : (s : SegId) → In s [] ⊎ HasWalk old s → HasWalk old s
-    kept s (inl m) = absurd m
-    kept s (inr h) = h
+    subst (IsDone graph [] old) same
+    (record { laid = laid; clockwise = clockwise; each = λ s h. elim h [ inl m ↦ absurd m | inr k ↦ k ] })
 done graph fit (s ∷ order) old r laid clockwise within e =
     by_route (route_of graph old s) refl e (λ w k next. done graph fit order (with_route graph old s w) r (laid_more graph fit old laid s (within s (inl refl)) w k)
     (clockwise_more graph fit old s w (goes graph fit old laid.underway s (within s (inl refl)) w k) clockwise) (λ t m. within t (inr m)) next)
@@ -192,9 +187,6 @@ pub record IsPutOf (graph : GraphParts) (r : Routed) (p : Put) : Type 0 where
 put_by_leg : (graph : GraphParts) (r : Routed) → AreAll graph r → (l : Leg) (s : SegId) → IsLegOf graph r l s → (p : Put) → In p (puts_by l) → IsPutOf graph r p
 put_by_leg graph r a l s leg p m = which m
   where
-    ends : AreEnds (length graph.kinds) (ends_of graph s)
-    ends = a.fit.ends s.0 no_ends leg.within
-
     low : IsPutOf graph r (let q : Put = (l.0.0.0, l.1.start) in q)
     low = record {
       point = a.laid.starts s l.1 leg.walk ∙ ap (λ (e : NodeId × NodeId). node_point r e.0.0) (sym leg.ends);
@@ -251,25 +243,23 @@ two_apart graph r a i j l m h e f =
     common_from l m d p.0 q.0 p.1 q.1 (p.2 ∙ sym q.2) (ap doubled p.3 ∙ met.there) (ap doubled q.3 ∙ met.there))
 
 leg_clear : (graph : GraphParts) (r : Routed) → AreAll graph r → (l : Leg) (p : Put) → In l (legs_in graph r) → In p (puts_of (legs_in graph r)) → is_clear l p ≡ true
-leg_clear graph r a l p m n = by_test (cases_Bool (is_among (doubled_of l.1) (doubled p.1)))
+leg_clear graph r a l p m n = elim (cases_Bool (is_among (doubled_of l.1) (doubled p.1))) [
+  | inl t ↦ (let leg = leg_of_in graph r a l m in
+      let put = put_in graph r a p n in
+      or_left _ _ (own leg.0 leg.1
+      (a.laid.clear leg.0 l.1 p.0 leg.1.walk put.within put.settled (subst (λ v. In (doubled v) (doubled_of l.1)) put.point (among_at (doubled_of l.1) (doubled p.1) t)))))
+  | inr f ↦ or_right _ _ (not_from_false _ f)
+]
   where
     own : (s : SegId) → IsLegOf graph r l s → HasEnd (ends_of graph s) p.0 → (eqb l.0.0.0 p.0 || eqb l.0.1.0 p.0) ≡ true
     own s leg (inl e) = or_left _ _ (eq-eqb _ _ (ap (λ (v : NodeId × NodeId). v.0.0) leg.ends ∙ e))
     own s leg (inr e) = or_right _ _ (eq-eqb _ _ (ap (λ (v : NodeId × NodeId). v.1.0) leg.ends ∙ e))
 
-    by_test : (is_among (doubled_of l.1) (doubled p.1) ≡ true) ⊎ (is_among (doubled_of l.1) (doubled p.1) ≡ false) → is_clear l p ≡ true
-    by_test (inl t) =
-        let leg = leg_of_in graph r a l m in
-        let put = put_in graph r a p n in
-        or_left _ _ (own leg.0 leg.1
-        (a.laid.clear leg.0 l.1 p.0 leg.1.walk put.within put.settled (subst (λ v. In (doubled v) (doubled_of l.1)) put.point (among_at (doubled_of l.1) (doubled p.1) t))))
-    by_test (inr f) = or_right _ _ (not_from_false _ f)
-
 all_meets : (graph : GraphParts) (r : Routed) → AreAll graph r → meets_hold (legs_in graph r) ≡ true
 all_meets graph r a = meets_hold-from (legs_in graph r) (record {
   distinct = λ l m. let leg = leg_of_in graph r a l m in a.laid.once leg.0 l.1 leg.1.walk;
   apart = apart_places (legs_in graph r) (two_apart graph r a);
-  clear = λ l p m n. leg_clear graph r a l p m n;
+  clear = leg_clear graph r a;
 })
 
 -- the port of a leg is that of its segment

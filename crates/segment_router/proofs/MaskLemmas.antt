@@ -14,6 +14,7 @@ use Rattle.octi_grid.proofs.Members.{In}
 use Rattle.octi_grid.proofs.PortsLemmas.{round_ends}
 use Rattle.walk_search.specs.Moves.{is_all_or_none}
 use Rattle.walk_search.specs.Routes.{directions}
+use Rattle.walk_search.proofs.Turning.{of_eight}
 use Rattle.segment_router.proofs.Places.{all_in, same_seg}
 use Rattle.segment_router.specs.Ports.{allowed_mask, are_spaced, distance_to, gaps_of, gaps_to, is_allowed, mask_of, port_in, stops_from, turned_over, with_port, with_stop, Stop}
 use Rattle.segment_router.specs.Routes.{ends_of, is_settled, port_at_node, port_by, walk_at, Routed}
@@ -100,14 +101,7 @@ lone_stops seg d (s ∷ round) i = by_test (eqb seg.0 s.0) (lone_stops seg d rou
     by_test false e = e
 
 distance_round : (d : Dir) → distance_to d d ≡ 8
-distance_round dir.N = refl
-distance_round dir.NE = refl
-distance_round dir.E = refl
-distance_round dir.SE = refl
-distance_round dir.S = refl
-distance_round dir.SW = refl
-distance_round dir.W = refl
-distance_round dir.NW = refl
+distance_round = of_eight (λ d. distance_to d d ≡ 8) refl refl refl refl refl refl refl refl
 
 lone_gaps : (count : ℕ) (d : Dir) (first at : ℕ) (is : List ℕ) → gaps_to count (first, d) (at, d) (with_ports d is) ≡ gaps_to count (first, dir.N) (at, dir.N) (with_ports dir.N is)
 lone_gaps count d first at [] = ap (λ n. (let g : ℕ × ℕ = (n, first + count - at) in g) ∷ []) (distance_round d)
@@ -141,11 +135,13 @@ lone_mask f round seg none =
 -- a segment of a round ends at the node
 pub ends_round : (graph : GraphParts) → IsConsistent graph → (n : ℕ) → n < length graph.kinds → (s : SegId) → In s (get_or graph.rounds n []) → ((ends_of graph s).0.0 ≡ n) ⊎ ((ends_of graph s).1.0 ≡ n)
 ends_round graph fit n h s m =
-    which (or_cases _ _ (all_in (λ (t : SegId). ends_at n (ends_of graph t) ≡ true) (get_or graph.rounds n []) s (round_ends graph fit n (omega (arith, fit.round_each))) m))
-  where
-    which : (eqb (ends_of graph s).0.0 n ≡ true) ⊎ (eqb (ends_of graph s).1.0 n ≡ true) → ((ends_of graph s).0.0 ≡ n) ⊎ ((ends_of graph s).1.0 ≡ n)
-    which (inl e) = inl (eqb-true _ _ e)
-    which (inr e) = inr (eqb-true _ _ e)
+    let ends =
+    all_in (λ (t : SegId). ends_at n (ends_of graph t) ≡ true) (get_or graph.rounds n []) s
+    (round_ends graph fit n (omega (arith, fit.round_each))) m in
+    elim (or_cases (eqb (ends_of graph s).0.0 n) (eqb (ends_of graph s).1.0 n) ends) [
+      | inl e ↦ inl (eqb-true _ _ e)
+      | inr e ↦ inr (eqb-true _ _ e)
+    ]
 
 -- at a node that is not settled no segment has its route, so all ports are allowed or none
 no_port : (graph : GraphParts) → IsConsistent graph → (r : Routed) → IsUnderway graph r → (n : ℕ) → n < length graph.kinds → is_settled r n ≡ false → (s : SegId) → In s (get_or graph.rounds n []) → port_at_node graph r n s ≡ None

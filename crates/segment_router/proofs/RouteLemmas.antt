@@ -5,7 +5,6 @@ use Rattle.std.proofs.lemmas.Int.{ints}
 use Rattle.std.proofs.lemmas.Bool.{and_left, and_right, and_parts, and_from, not-true, eqb-true, eq-eqb, true≢false}
 use Rattle.std.specs.List.{flat_map, list_all, list_any}
 use Rattle.octi_grid.specs.declared.dir.Dir.{Dir}
-use Rattle.octi_grid.specs.declared.dir.Dir.TheVariants as dir
 use Rattle.octi_grid.specs.declared.point.GridPoint.{GridPoint}
 use Rattle.octi_grid.specs.Ways.{after, are_one, doubled, points_from, step_from}
 use Rattle.octi_grid.specs.Walks.{doubled_of, end_point, end_port, points_of, start_port, PlainWalk}
@@ -15,6 +14,7 @@ use Rattle.walk_search.specs.declared.ends.End.{End}
 use Rattle.grid_board.specs.Boards.{is_inside, BoardParts}
 use Rattle.walk_search.specs.Seats.{is_free_seat, seats_of, shifted, shifts}
 use Rattle.walk_search.proofs.Best.{route_free}
+use Rattle.walk_search.proofs.Turning.{of_eight}
 use Rattle.walk_search.specs.Routes.{allows, best_of, inner_points, is_free, is_no_worse, is_settled_end, most_steps, route, walks_from}
 
 -- what is left of a list after a test
@@ -138,17 +138,7 @@ no_route board from to f = ap (best_of (is_no_worse from to)) (no_filter (is_fre
 
 none_allowed : (o : Option Dir) → allows 0 o ≡ false
 none_allowed None = refl
-none_allowed (Some d) = by_direction d
-  where
-    by_direction : (d : Dir) → allows 0 (Some d) ≡ false
-    by_direction dir.N = refl
-    by_direction dir.NE = refl
-    by_direction dir.E = refl
-    by_direction dir.SE = refl
-    by_direction dir.S = refl
-    by_direction dir.SW = refl
-    by_direction dir.W = refl
-    by_direction dir.NW = refl
+none_allowed (Some d) = of_eight (λ e. allows 0 (Some e) ≡ false) refl refl refl refl refl refl refl refl d
 
 pub no_route_from : (board : BoardParts) (from to : End) → from.ports ≡ 0 → route board from to ≡ None
 no_route_from board from to e = no_route board from to (λ w. and_left _ _ (and_right _ _ (ap (λ m. allows m (start_port w)) e ∙ none_allowed (start_port w))))

@@ -2,7 +2,7 @@
 use mir.Syntax.{w32}
 use mir.Val.{of_z, to_z}
 use Rattle.std.proofs.Common.{◌≡◌, ℕ, ◌+◌, ◌<◌, ◌≤◌, Bool, true, false, cond, ℤ, pos, List, [], ◌∷◌, ◌++◌, not, length, get_or, set, drop, slice_get, Option, Some, None, Err, sym, refl, ap, subst, ◌∙◌, arith, ◌⊎◌, inl, inr, append_assoc}
-use Rattle.std.proofs.lemmas.Bool.{not-true}
+use Rattle.std.proofs.lemmas.Bool.{not-true, cond_both}
 use Rattle.std.proofs.lemmas.Int.{ints}
 use Rattle.std.proofs.lemmas.List.{drop_more, get_or-set_other, get_or_read, length-set}
 use Rattle.std.proofs.lemmas.List.Elements.{filter_map-append, All-from_recursion}
@@ -57,15 +57,11 @@ push_kept kept seen o e = ap (λ v. v ++ cons_option o []) e ∙ sym (filter_map
 -- the segments of a round are segments of the graph
 within_from : (m n i : ℕ) (es : List (NodeId × NodeId)) → i + length es ≤ m → AllByRecursion (λ (s : SegId). s.0 < m) (segments_from i n es)
 within_from m n i [] h = tt
-within_from m n i (e ∷ es) h = by_test (ends_at n e) (within_from m n (i + 1) es (omega arith))
-  where
-    here : i < m
-    here = omega arith
-
-    by_test : (b : Bool) → AllByRecursion (λ (s : SegId). s.0 < m) (segments_from (i + 1) n es)
-        → AllByRecursion (λ (s : SegId). s.0 < m) (cond b (record { 0 = i } ∷ segments_from (i + 1) n es) (segments_from (i + 1) n es))
-    by_test true rest = (here, rest)
-    by_test false rest = rest
+within_from m n i (e ∷ es) h =
+    let here : i < m = omega arith in
+    let rest = within_from m n (i + 1) es (omega arith) in
+    cond_both (ends_at n e) (record { 0 = i } ∷ segments_from (i + 1) n es) (segments_from (i + 1) n es)
+    (AllByRecursion (λ (s : SegId). s.0 < m)) (λ t. (here, rest)) (λ t. rest)
 
 pub round_within : (graph : GraphParts) → IsConsistent graph → (n : ℕ) → n < length graph.kinds → (round : List SegId) → get_or graph.rounds n [] ≡ round → (i : ℕ) (d : SegId) → i < length round
     → (get_or round i d).0 < length graph.ends
@@ -77,10 +73,6 @@ round_within graph fit n h round e i d k =
 -- a point passes a test, where another name of it does
 pub same_passes : (test : GridPoint → Bool) (p q : GridPoint) → p ≡ q → test q ≡ true → test p ≡ true
 same_passes test p q e h = ap test e ∙ h
-
--- a node that was settled last
-pub settled_by : (r new : Routed) (n : ℕ) (p q : GridPoint) → new ≡ with_settled r n q → q ≡ p → new ≡ with_settled r n p
-settled_by r new n p q e f = e ∙ ap (with_settled r n) f
 
 pub inside_still : (r new : Routed) (n : ℕ) (p q : GridPoint) → new ≡ with_settled r n p → is_inside r.board q ≡ true → is_inside new.board q ≡ true
 inside_still r new n p q e h = ap (λ (v : Routed). is_inside v.board q) e ∙ h
@@ -158,9 +150,6 @@ pub routed_more : (graph : GraphParts) (order : List SegId) (i : ℕ) (d : SegId
     → route_each graph (drop i order) r ≡ cond found (route_each graph (drop (i + 1) order) new) (Err (get_or order i d))
 routed_more graph order i d r new found h on = ap (λ (ss : List SegId). route_each graph ss r) (drop_more order i d h) ∙ by_found found on
   where
-    s : SegId
-    s = get_or order i d
-
     by_found : (b : Bool) → GoesOn graph r (get_or order i d) new b
         → after_route (get_or order i d) (λ w. route_each graph (drop (i + 1) order) (with_route graph r (get_or order i d) w)) (route_of graph r (get_or order i d))
         ≡ cond b (route_each graph (drop (i + 1) order) new) (Err (get_or order i d))

@@ -1,5 +1,5 @@
 -- Where nodes stand after a route, and what holds of routing under way then.
-use Rattle.std.proofs.Common.{◌≡◌, ℕ, ◌<◌, Bool, true, false, not, ◌&&◌, ◌||◌, List, length, get_or, set, Some, None, pos, sym, ap, ◌∙◌, arith, ◌⊎◌, inl, inr}
+use Rattle.std.proofs.Common.{◌≡◌, ℕ, ◌<◌, Bool, true, false, not, ◌&&◌, ◌||◌, List, length, get_or, set, Some, None, pos, sym, ap, ◌∙◌, arith, ◌⊎◌, inl, inr, subst}
 use Rattle.std.proofs.lemmas.Bool.{and_from, cases_Bool, cases_eq, or_cases, or_left, or_right, not-true, not_from_false, true≢false}
 use Rattle.std.proofs.lemmas.List.{get_or-set_other, get_or-set_same, length-set}
 use Rattle.map_base.specs.declared.ids.NodeId.{NodeId}
@@ -44,12 +44,10 @@ pub record Goes (graph : GraphParts) (r : Routed) (s : SegId) (w : PlainWalk) : 
 pub goes : (graph : GraphParts) → IsConsistent graph → (r : Routed) → IsUnderway graph r → (s : SegId) → s.0 < length graph.ends → (w : PlainWalk) → route_of graph r s ≡ Some w → Goes graph r s w
 goes graph fit r underway s h w e =
     let ends = fit.ends s.0 (record { 0 = 0 }, record { 0 = 0 }) h in
-    let first : (ends_of graph s).0.0 < (ends_of graph s).1.0 = ends.0 in
-    let second : (ends_of graph s).1.0 < length graph.kinds = ends.1 in
     record {
-      low_node = omega arith;
-      up_node = second;
-      order = first;
+      low_node = omega (arith, ends.0, ends.1);
+      up_node = ends.1;
+      order = ends.0;
       segment = h;
       underway = underway;
       route = route_parts r.board (end_at graph r s (ends_of graph s).0.0) (end_at graph r s (ends_of graph s).1.0) w e;
@@ -79,20 +77,22 @@ other_settled graph r s w n f h = twice_other r.settled (ends_of graph s).0.0 (e
 
 -- a node is one of the two ends, or another
 pub which_node : (lo up n : ℕ) → (n ≡ lo) ⊎ ((n ≡ up) ⊎ ((n ≡ lo → ⊥) × (n ≡ up → ⊥)))
-which_node lo up n = by_low (cases_eq n lo) (cases_eq n up)
-  where
-    by_low : (n ≡ lo) ⊎ (n ≡ lo → ⊥) → (n ≡ up) ⊎ (n ≡ up → ⊥) → (n ≡ lo) ⊎ ((n ≡ up) ⊎ ((n ≡ lo → ⊥) × (n ≡ up → ⊥)))
-    by_low (inl e) h = inl e
-    by_low (inr f) (inl e) = inr (inl e)
-    by_low (inr f) (inr g) = inr (inr (f, g))
+which_node lo up n = elim (cases_eq n lo) [
+  | inl e ↦ inl e
+  | inr f ↦ elim (cases_eq n up) [ inl e ↦ inr (inl e) | inr g ↦ inr (inr (f, g)) ]
+]
+
+pub by_ends : (P : ℕ → Type 0) (lo up n : ℕ) → P lo → P up → ((n ≡ lo → ⊥) → (n ≡ up → ⊥) → P n) → P n
+by_ends P lo up n low high other = elim (cases_eq n lo) [
+  | inl e ↦ subst P (sym e) low
+  | inr f ↦ elim (cases_eq n up) [ inl e ↦ subst P (sym e) high | inr g ↦ other f g ]
+]
 
 pub stays_settled : (graph : GraphParts) (r : Routed) (s : SegId) (w : PlainWalk) → Goes graph r s w → (n : ℕ) → is_settled r n ≡ true → is_settled (with_route graph r s w) n ≡ true
-stays_settled graph r s w g n e = by_node (which_node (ends_of graph s).0.0 (ends_of graph s).1.0 n)
-  where
-    by_node : (n ≡ (ends_of graph s).0.0) ⊎ ((n ≡ (ends_of graph s).1.0) ⊎ ((n ≡ (ends_of graph s).0.0 → ⊥) × (n ≡ (ends_of graph s).1.0 → ⊥))) → is_settled (with_route graph r s w) n ≡ true
-    by_node (inl h) = ap (is_settled (with_route graph r s w)) h ∙ low_settled graph r s w g
-    by_node (inr (inl h)) = ap (is_settled (with_route graph r s w)) h ∙ up_settled graph r s w g
-    by_node (inr (inr h)) = other_settled graph r s w n h.0 h.1 ∙ e
+stays_settled graph r s w g n e =
+    by_ends (λ v. is_settled (with_route graph r s w) v ≡ true) (ends_of graph s).0.0 (ends_of graph s).1.0 n
+    (low_settled graph r s w g) (up_settled graph r s w g)
+    (λ f h. other_settled graph r s w n f h ∙ e)
 
 -- the walks afterwards
 pub own_walk : (graph : GraphParts) (r : Routed) (s : SegId) (w : PlainWalk) → Goes graph r s w → (t : SegId) → t.0 ≡ s.0 → walk_at (with_route graph r s w) t ≡ Some w
@@ -108,18 +108,16 @@ same_ends graph s t e = ap (λ i. get_or graph.ends i (let none : NodeId × Node
 -- a seat of a node is no other node's point
 pub seat_away : (graph : GraphParts) (r : Routed) → IsUnderway graph r → (s : SegId) (m n : ℕ) (p : GridPoint) → m < length graph.kinds → n < length graph.kinds → (m ≡ n → ⊥)
     → IsSeat r.board (end_at graph r s m) p → p ≡ node_point r n → ⊥
-seat_away graph r underway s m n p h k other seat e = by_free (cases_Bool (not (is_settled r m)))
+seat_away graph r underway s m n p h k other seat e = elim (cases_Bool (not (is_settled r m))) [
+  | inl t ↦ elim (or_cases _ _ (seat.own t)) [
+    | inl own ↦ home (sym (one_point (node_point r m) p own))
+    | inr free ↦ true≢false (sym (underway.on_board n k) ∙ ap r.board.is_node (sym e) ∙ not-true _ free)
+  ]
+  | inr t ↦ home (seat.of_settled t)
+]
   where
     home : p ≡ node_point r m → ⊥
     home f = other (underway.apart m n h k (sym f ∙ e))
-
-    by_own : (are_one (node_point r m) p ≡ true) ⊎ (not (r.board.is_node p) ≡ true) → ⊥
-    by_own (inl t) = home (sym (one_point (node_point r m) p t))
-    by_own (inr t) = true≢false (sym (underway.on_board n k) ∙ ap r.board.is_node (sym e) ∙ not-true _ t)
-
-    by_free : (not (is_settled r m) ≡ true) ⊎ (not (is_settled r m) ≡ false) → ⊥
-    by_free (inl t) = by_own (or_cases _ _ (seat.own t))
-    by_free (inr t) = home (seat.of_settled t)
 
 pub start_away : (graph : GraphParts) (r : Routed) (s : SegId) (w : PlainWalk) → Goes graph r s w → (n : ℕ) → n < length graph.kinds → ((ends_of graph s).0.0 ≡ n → ⊥) → w.start ≡ node_point r n → ⊥
 start_away graph r s w g n h other e = seat_away graph r g.underway s (ends_of graph s).0.0 n w.start g.low_node h other g.route.at_start e
@@ -132,12 +130,6 @@ pub apart_then : (graph : GraphParts) (r : Routed) (s : SegId) (w : PlainWalk) �
     → node_point (with_route graph r s w) n ≡ node_point (with_route graph r s w) m → n ≡ m
 apart_then graph r s w g n m h k e = by_nodes (which_node (ends_of graph s).0.0 (ends_of graph s).1.0 n) (which_node (ends_of graph s).0.0 (ends_of graph s).1.0 m)
   where
-    lo : ℕ
-    lo = (ends_of graph s).0.0
-
-    up : ℕ
-    up = (ends_of graph s).1.0
-
     at_low : (v : ℕ) → v ≡ (ends_of graph s).0.0 → node_point (with_route graph r s w) v ≡ w.start
     at_low v f = ap (node_point (with_route graph r s w)) f ∙ low_point graph r s w g
 
@@ -159,17 +151,12 @@ apart_then graph r s w g n m h k e = by_nodes (which_node (ends_of graph s).0.0 
 -- a fact of each node's point afterwards, from what it is of the ends of the route and of the other nodes
 pub point_holds : (graph : GraphParts) (r : Routed) (s : SegId) (w : PlainWalk) → Goes graph r s w → (test : GridPoint → Bool) → test w.start ≡ true → test (end_point w) ≡ true
     → (n : ℕ) → ((n ≡ (ends_of graph s).0.0 → ⊥) → (n ≡ (ends_of graph s).1.0 → ⊥) → test (node_point r n) ≡ true) → test (node_point (with_route graph r s w) n) ≡ true
-point_holds graph r s w g test start end n rest = by_node (which_node (ends_of graph s).0.0 (ends_of graph s).1.0 n)
-  where
-    by_node : (n ≡ (ends_of graph s).0.0) ⊎ ((n ≡ (ends_of graph s).1.0) ⊎ ((n ≡ (ends_of graph s).0.0 → ⊥) × (n ≡ (ends_of graph s).1.0 → ⊥))) → test (node_point (with_route graph r s w) n) ≡ true
-    by_node (inl h) = ap (λ v. test (node_point (with_route graph r s w) v)) h ∙ ap test (low_point graph r s w g) ∙ start
-    by_node (inr (inl h)) = ap (λ v. test (node_point (with_route graph r s w) v)) h ∙ ap test (up_point graph r s w g) ∙ end
-    by_node (inr (inr h)) = ap test (other_point graph r s w n h.0 h.1) ∙ rest h.0 h.1
+point_holds graph r s w g test start end n rest =
+    by_ends (λ v. test (node_point (with_route graph r s w) v) ≡ true) (ends_of graph s).0.0 (ends_of graph s).1.0 n
+    (ap test (low_point graph r s w g) ∙ start) (ap test (up_point graph r s w g) ∙ end)
+    (λ f h. ap test (other_point graph r s w n f h) ∙ rest f h)
 
 -- the board that two nodes are moved on has them
-moved_second : (board : BoardParts) (a b c p q : GridPoint) → are_one q p ≡ true → (are_one q p || (not (are_one c p) && (are_one b p || (not (are_one a p) && board.is_node p)))) ≡ true
-moved_second board a b c p q e = or_left _ _ e
-
 moved_first : (board : BoardParts) (a b c p q : GridPoint) → are_one c p ≡ false → are_one b p ≡ true → (are_one q p || (not (are_one c p) && (are_one b p || (not (are_one a p) && board.is_node p)))) ≡ true
 moved_first board a b c p q e f = or_right _ _ (and_from _ _ (not_from_false _ e) (or_left _ _ f))
 
@@ -186,30 +173,23 @@ not_one p q f = false_from _ (λ e. f (one_point p q e))
 
 nodes_then : (graph : GraphParts) (r : Routed) (s : SegId) (w : PlainWalk) → Goes graph r s w → (n : ℕ) → n < length graph.kinds
     → (with_route graph r s w).board.is_node (node_point (with_route graph r s w) n) ≡ true
-nodes_then graph r s w g n h = by_node (which_node (ends_of graph s).0.0 (ends_of graph s).1.0 n)
+nodes_then graph r s w g n h =
+    by_ends (λ v. (with_route graph r s w).board.is_node (node_point (with_route graph r s w) v) ≡ true)
+    (ends_of graph s).0.0 (ends_of graph s).1.0 n
+    (ap (with_route graph r s w).board.is_node (low_point graph r s w g)
+    ∙ shown w.start (moved_first r.board (node_point r (ends_of graph s).0.0) w.start (node_point r (ends_of graph s).1.0) w.start (end_point w)
+    (not_one _ _ (λ f. start_away graph r s w g (ends_of graph s).1.0 g.up_node (λ k. omega (arith, g.order, k)) (sym f))) (are_one-refl w.start)))
+    (ap (with_route graph r s w).board.is_node (up_point graph r s w g) ∙ shown (end_point w) (or_left _ _ (are_one-refl (end_point w))))
+    (λ e k.
+    ap (with_route graph r s w).board.is_node (other_point graph r s w n e k)
+    ∙ shown (node_point r n) (moved_none r.board (node_point r (ends_of graph s).0.0) w.start (node_point r (ends_of graph s).1.0) (node_point r n) (end_point w)
+    (not_one _ _ (λ f. k (g.underway.apart n (ends_of graph s).1.0 h g.up_node (sym f))))
+    (not_one _ _ (λ f. e (g.underway.apart n (ends_of graph s).0.0 h g.low_node (sym f))))
+    (g.underway.on_board n h)))
   where
-    before : GridPoint
-    before = node_point r (ends_of graph s).1.0
-
     shown : (p : GridPoint) → (are_one (end_point w) p || (not (are_one (node_point r (ends_of graph s).1.0) p) && (are_one w.start p || (not (are_one (node_point r (ends_of graph s).0.0) p) && r.board.is_node p)))) ≡ true
         → (with_route graph r s w).board.is_node p ≡ true
     shown p e = ap (λ (c : GridPoint). are_one (end_point w) p || (not (are_one c p) && (are_one w.start p || (not (are_one (node_point r (ends_of graph s).0.0) p) && r.board.is_node p)))) (up_before graph r s w g) ∙ e
-
-    by_node : (n ≡ (ends_of graph s).0.0) ⊎ ((n ≡ (ends_of graph s).1.0) ⊎ ((n ≡ (ends_of graph s).0.0 → ⊥) × (n ≡ (ends_of graph s).1.0 → ⊥)))
-        → (with_route graph r s w).board.is_node (node_point (with_route graph r s w) n) ≡ true
-    by_node (inl e) =
-        ap (with_route graph r s w).board.is_node (ap (node_point (with_route graph r s w)) e ∙ low_point graph r s w g)
-        ∙ shown w.start (moved_first r.board (node_point r (ends_of graph s).0.0) w.start (node_point r (ends_of graph s).1.0) w.start (end_point w)
-        (not_one _ _ (λ f. start_away graph r s w g (ends_of graph s).1.0 g.up_node (λ k. omega (arith, g.order, k)) (sym f))) (are_one-refl w.start))
-    by_node (inr (inl e)) =
-        ap (with_route graph r s w).board.is_node (ap (node_point (with_route graph r s w)) e ∙ up_point graph r s w g)
-        ∙ shown (end_point w) (moved_second r.board (node_point r (ends_of graph s).0.0) w.start (node_point r (ends_of graph s).1.0) (end_point w) (end_point w) (are_one-refl (end_point w)))
-    by_node (inr (inr e)) =
-        ap (with_route graph r s w).board.is_node (other_point graph r s w n e.0 e.1)
-        ∙ shown (node_point r n) (moved_none r.board (node_point r (ends_of graph s).0.0) w.start (node_point r (ends_of graph s).1.0) (node_point r n) (end_point w)
-        (not_one _ _ (λ f. e.1 (g.underway.apart n (ends_of graph s).1.0 h g.up_node (sym f))))
-        (not_one _ _ (λ f. e.0 (g.underway.apart n (ends_of graph s).0.0 h g.low_node (sym f))))
-        (g.underway.on_board n h))
 
 -- routing is under way after a route
 pub underway_more : (graph : GraphParts) (r : Routed) (s : SegId) (w : PlainWalk) → Goes graph r s w → IsUnderway graph (with_route graph r s w)
@@ -222,14 +202,12 @@ underway_more graph r s w g = record {
   even = λ n h. point_holds graph r s w g is_even (g.route.at_start.even (g.underway.even (ends_of graph s).0.0 g.low_node)) (g.route.at_end.even (g.underway.even (ends_of graph s).1.0 g.up_node)) n
       (λ _ _. g.underway.even n h);
   apart = apart_then graph r s w g;
-  low_settled = λ t v e. low t v e (cases_eq t.0 s.0);
-  up_settled = λ t v e. up t v e (cases_eq t.0 s.0);
+  low_settled = λ t v e. elim (cases_eq t.0 s.0) [
+    | inl h ↦ ap (λ (p : NodeId × NodeId). is_settled (with_route graph r s w) p.0.0) (same_ends graph s t h) ∙ low_settled graph r s w g
+    | inr f ↦ stays_settled graph r s w g (ends_of graph t).0.0 (g.underway.low_settled t v (sym (other_walk graph r s w t f) ∙ e))
+  ];
+  up_settled = λ t v e. elim (cases_eq t.0 s.0) [
+    | inl h ↦ ap (λ (p : NodeId × NodeId). is_settled (with_route graph r s w) p.1.0) (same_ends graph s t h) ∙ up_settled graph r s w g
+    | inr f ↦ stays_settled graph r s w g (ends_of graph t).1.0 (g.underway.up_settled t v (sym (other_walk graph r s w t f) ∙ e))
+  ];
 }
-  where
-    low : (t : SegId) (v : PlainWalk) → walk_at (with_route graph r s w) t ≡ Some v → (t.0 ≡ s.0) ⊎ (t.0 ≡ s.0 → ⊥) → is_settled (with_route graph r s w) (ends_of graph t).0.0 ≡ true
-    low t v e (inl h) = ap (λ (p : NodeId × NodeId). is_settled (with_route graph r s w) p.0.0) (same_ends graph s t h) ∙ low_settled graph r s w g
-    low t v e (inr f) = stays_settled graph r s w g (ends_of graph t).0.0 (g.underway.low_settled t v (sym (other_walk graph r s w t f) ∙ e))
-
-    up : (t : SegId) (v : PlainWalk) → walk_at (with_route graph r s w) t ≡ Some v → (t.0 ≡ s.0) ⊎ (t.0 ≡ s.0 → ⊥) → is_settled (with_route graph r s w) (ends_of graph t).1.0 ≡ true
-    up t v e (inl h) = ap (λ (p : NodeId × NodeId). is_settled (with_route graph r s w) p.1.0) (same_ends graph s t h) ∙ up_settled graph r s w g
-    up t v e (inr f) = stays_settled graph r s w g (ends_of graph t).1.0 (g.underway.up_settled t v (sym (other_walk graph r s w t f) ∙ e))

@@ -49,32 +49,33 @@ pub record IsShown (graph : GraphParts) (r : Routed) : Type 0 where
 -- at first
 home_at : (homes : List GridPoint) (board : BoardParts) (p d : GridPoint) → (with_nodes board homes).is_node p ≡ true → (board.is_node p ≡ true) ⊎ ((n : ℕ) × (n < length homes) × (get_or homes n d ≡ p))
 home_at [] board p d e = inl e
-home_at (q ∷ homes) board p d e = by_place (home_at homes (with_node board q) p d e)
-  where
-    by_test : (are_one q p ≡ true) ⊎ (board.is_node p ≡ true) → (board.is_node p ≡ true) ⊎ ((n : ℕ) × (n < suc (length homes)) × (get_or (q ∷ homes) n d ≡ p))
-    by_test (inl h) = inr (0, omega arith, one_point q p h)
-    by_test (inr h) = inl h
-
-    by_place : ((are_one q p || board.is_node p) ≡ true) ⊎ ((n : ℕ) × (n < length homes) × (get_or homes n d ≡ p)) → (board.is_node p ≡ true) ⊎ ((n : ℕ) × (n < suc (length homes)) × (get_or (q ∷ homes) n d ≡ p))
-    by_place (inl h) = by_test (or_cases _ _ h)
-    by_place (inr h) = inr (suc h.0, omega (arith, h.1), h.2)
+home_at (q ∷ homes) board p d e = elim (home_at homes (with_node board q) p d e) [
+  | inl h ↦ elim (or_cases (are_one q p) (board.is_node p) h) [
+    | inl k ↦ inr (0, omega arith, one_point q p k)
+    | inr k ↦ inl k
+  ]
+  | inr h ↦ inr (suc h.0, omega (arith, h.1), h.2)
+]
 
 shown_begins : (graph : GraphParts) (placing : Placing) → IsPlacing graph placing → IsShown graph (begun graph placing)
 shown_begins graph placing fit = record {
   laid = laid_begins graph placing fit;
-  node_at = λ p e. by_home p (home_at placing.points (empty_board (grid_under placing)) p (record { x = pos 0; y = pos 0 }) e);
+  node_at =
+      λ p e. elim (home_at placing.points (empty_board (grid_under placing)) p (record { x = pos 0; y = pos 0 }) e) [
+        | inl none ↦ absurd (false≢true none)
+        | inr h ↦ record { node = h.0; within = omega (arith, h.1, fit.one_each); there = h.2 }
+      ];
   walk_with = λ d e. absurd (false≢true (sym (taken_stays placing.points (empty_board (grid_under placing)) d) ∙ e));
   home_clear = λ n h f. taken_stays placing.points (empty_board (grid_under placing)) (doubled (node_point (begun graph placing) n));
 }
-  where
-    by_home : (p : GridPoint) → (false ≡ true) ⊎ ((n : ℕ) × (n < length placing.points) × (get_or placing.points n (record { x = pos 0; y = pos 0 }) ≡ p)) → NodeAt graph (begun graph placing) p
-    by_home p (inl e) = absurd (false≢true e)
-    by_home p (inr h) = record { node = h.0; within = omega (arith, h.1, fit.one_each); there = h.2 }
 
 -- one walk more
 node_then : (graph : GraphParts) (r : Routed) (s : SegId) (w : PlainWalk) → Goes graph r s w → ((p : GridPoint) → r.board.is_node p ≡ true → NodeAt graph r p) → (p : GridPoint)
     → (with_route graph r s w).board.is_node p ≡ true → NodeAt graph (with_route graph r s w) p
-node_then graph r s w g before p e = by_new (or_cases _ _ e)
+node_then graph r s w g before p e = elim (or_cases (are_one (end_point w) p) (not (are_one (get_or (set r.points (ends_of graph s).0.0 w.start) (ends_of graph s).1.0 (record { x = pos 0; y = pos 0 })) p) && (are_one w.start p || (not (are_one (node_point r (ends_of graph s).0.0) p) && r.board.is_node p))) e) [
+  | inl h ↦ at_up h
+  | inr h ↦ (let parts = and_parts _ _ h in by_old (ap (λ (c : GridPoint). are_one c p) (sym (up_before graph r s w g)) ∙ not-true _ parts.0) (or_cases _ _ parts.1))
+]
   where
     at_low : are_one w.start p ≡ true → NodeAt graph (with_route graph r s w) p
     at_low h = record { node = (ends_of graph s).0.0; within = g.low_node; there = low_point graph r s w g ∙ one_point w.start p h }
@@ -96,12 +97,6 @@ node_then graph r s w g before p e = by_new (or_cases _ _ e)
     by_old : are_one (node_point r (ends_of graph s).1.0) p ≡ false → (are_one w.start p ≡ true) ⊎ ((not (are_one (node_point r (ends_of graph s).0.0) p) && r.board.is_node p) ≡ true) → NodeAt graph (with_route graph r s w) p
     by_old f (inl h) = at_low h
     by_old f (inr h) = let parts = and_parts _ _ h in other (not-true _ parts.0) f (before p parts.1)
-
-    by_new : (are_one (end_point w) p ≡ true)
-        ⊎ ((not (are_one (get_or (set r.points (ends_of graph s).0.0 w.start) (ends_of graph s).1.0 (record { x = pos 0; y = pos 0 })) p) && (are_one w.start p || (not (are_one (node_point r (ends_of graph s).0.0) p) && r.board.is_node p))) ≡ true)
-        → NodeAt graph (with_route graph r s w) p
-    by_new (inl h) = at_up h
-    by_new (inr h) = let parts = and_parts _ _ h in by_old (ap (λ (c : GridPoint). are_one c p) (sym (up_before graph r s w g)) ∙ not-true _ parts.0) (or_cases _ _ parts.1)
 
 shown_more : (graph : GraphParts) → IsConsistent graph → (r : Routed) → IsShown graph r → (s : SegId) → s.0 < length graph.ends → walk_at r s ≡ None → (w : PlainWalk) → route_of graph r s ≡ Some w
     → IsShown graph (with_route graph r s w)

@@ -90,18 +90,14 @@ pub record IsWithinTour (count : ℕ) (t : Tour) : Type 0 where
   pub last : t.last.place ≤ count
 
 within_chosen : (count : ℕ) (t : Tour) (s : PlaceAndPort) (next : Option Tour) → s.place ≤ count → IsWithinTour count t → as_tour (tour_past t s) ≡ Some next → IfSome next (IsWithinTour count)
-within_chosen count t s next h fit e = by_room (cases_Bool (leb (s.place - t.last.place) (distance_to t.last.port s.port) && leb (t.turned + distance_to t.last.port s.port) 8))
-  where
-    by_room : ((leb (s.place - t.last.place) (distance_to t.last.port s.port) && leb (t.turned + distance_to t.last.port s.port) 8) ≡ true)
-        ⊎ ((leb (s.place - t.last.place) (distance_to t.last.port s.port) && leb (t.turned + distance_to t.last.port s.port) 8) ≡ false) → IfSome next (IsWithinTour count)
-    by_room (inl room) =
-        let is : Some (let o : Option Tour = Some (record { first = t.first; last = s; turned = t.turned + distance_to t.last.port s.port }) in o) ≡ Some next =
-        sym (ap (λ b. as_tour (cond b (Some (record { first = t.first; last = s; turned = t.turned + distance_to t.last.port s.port })) None)) room) ∙ e in
-        let same : (let o : Option Tour = Some (record { first = t.first; last = s; turned = t.turned + distance_to t.last.port s.port }) in o) ≡ next = cc in
-        subst (λ (o : Option Tour). IfSome o (IsWithinTour count)) same (record { turned = leb-true _ _ (and_parts _ _ room).1; first = fit.first; last = h })
-    by_room (inr none) =
-        let is : (let o : Option (Option Tour) = None in o) ≡ Some next = sym (ap (λ b. as_tour (cond b (Some (record { first = t.first; last = s; turned = t.turned + distance_to t.last.port s.port })) None)) none) ∙ e in
-        cc
+within_chosen count t s next h fit e = elim (cases_Bool (leb (s.place - t.last.place) (distance_to t.last.port s.port) && leb (t.turned + distance_to t.last.port s.port) 8)) [
+  | inl room ↦ (let is : Some (let o : Option Tour = Some (record { first = t.first; last = s; turned = t.turned + distance_to t.last.port s.port }) in o) ≡ Some next =
+      sym (ap (λ b. as_tour (cond b (Some (record { first = t.first; last = s; turned = t.turned + distance_to t.last.port s.port })) None)) room) ∙ e in
+      let same : (let o : Option Tour = Some (record { first = t.first; last = s; turned = t.turned + distance_to t.last.port s.port }) in o) ≡ next = cc in
+      subst (λ (o : Option Tour). IfSome o (IsWithinTour count)) same (record { turned = leb-true _ _ (and_parts _ _ room).1; first = fit.first; last = h }))
+  | inr none ↦ (let is : (let o : Option (Option Tour) = None in o) ≡ Some next = sym (ap (λ b. as_tour (cond b (Some (record { first = t.first; last = s; turned = t.turned + distance_to t.last.port s.port })) None)) none) ∙ e in
+      cc)
+]
 
 -- a tour stays within the round
 pub within_more : (count : ℕ) (tour : Option Tour) (i : ℕ) (o : Option Dir) (next : Option Tour) → i < count → IfSome tour (IsWithinTour count) → tour_on tour i o ≡ Some next → IfSome next (IsWithinTour count)

@@ -121,10 +121,7 @@ fn gone_on(tour: Tour, stop: Stop) -> Option<Option<Tour>>
 {
     let gap = distance_to(tour.last.port, stop.port);
     let turned = tour.turned + gap;
-    if stop.place.saturating_sub(tour.last.place) > gap as usize {
-        return None;
-    }
-    if turned > 8 {
+    if stop.place.saturating_sub(tour.last.place) > gap as usize || turned > 8 {
         return None;
     }
     Some(Some(Tour {
@@ -144,13 +141,7 @@ fn closes(tour: Tour, count: usize) -> bool
     let gap = distance_to(tour.last.port, tour.first.port);
     let room = gap as usize;
     let back = count - tour.last.place;
-    if back > room {
-        return false;
-    }
-    if tour.first.place > room - back {
-        return false;
-    }
-    tour.turned + gap == 8
+    back <= room && tour.first.place <= room - back && tour.turned + gap == 8
 }
 
 /// How far clockwise the next of two ports is, in parts of 45 degrees: 8 from a port to itself.

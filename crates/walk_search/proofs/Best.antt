@@ -4,6 +4,7 @@ use Rattle.std.specs.Prelude.{int_lt}
 use Rattle.std.specs.List.{flat_map}
 use Rattle.std.specs.Ordering.{int_eq}
 use Rattle.std.proofs.lemmas.Int.{ints}
+use Rattle.std.proofs.lemmas.List.{length-map}
 use Rattle.std.proofs.lemmas.Bool.{and_parts, and_from, lt-ltb, eq-eqb, cases_order, cases_Bool, or_cases, or_left, or_right}
 use Rattle.least_path.specs.Least.{is_not_after, least_by}
 use Rattle.least_path.proofs.Chosen.{StandsIn, AllAre, all-at, all-flat_map, all-map, all-weaker, least-stands}
@@ -27,7 +28,7 @@ use Rattle.walk_search.proofs.SeatFacts.{all_filter, all_passed}
 use Rattle.walk_search.proofs.Moving.{is_space}
 use Rattle.walk_search.proofs.Walking.{AreLabelsOfWalk, path_labels}
 use Rattle.walk_search.proofs.FreeWalks.{HasPath, IsPathWalk, path_of_walk, walk_of_path}
-use Rattle.walk_search.proofs.Routing.{directions_back, is_looked_at, length-directions}
+use Rattle.walk_search.proofs.Routing.{directions_back, is_looked_at}
 
 -- of two one is no worse, and one that is no worse than another is no worse than what that is no worse than
 record IsRanking {A : Type 0} (le : A → A → Bool) : Type 0 where
@@ -35,11 +36,7 @@ record IsRanking {A : Type 0} (le : A → A → Bool) : Type 0 where
   onward : (a b c : A) → le a b ≡ true → le b c ≡ true → le a c ≡ true
 
 no_worse_self : {A : Type 0} (le : A → A → Bool) → IsRanking le → (a : A) → le a a ≡ true
-no_worse_self le ranks a = of_case (ranks.total a a)
-  where
-    of_case : (le a a ≡ true) ⊎ (le a a ≡ true) → le a a ≡ true
-    of_case (inl e) = e
-    of_case (inr e) = e
+no_worse_self le ranks a = elim (ranks.total a a) [ inl e ↦ e | inr e ↦ e ]
 
 -- the least of a list is no worse than each of it
 least_no_worse : {A : Type 0} (le : A → A → Bool) → IsRanking le → (other a : A) (rest : List A) → AllAre (λ x. le (least_by le other (a ∷ rest)) x ≡ true) (a ∷ rest)
@@ -76,8 +73,8 @@ heads_onward i j k first second whole rest e f = of_heads (by_head i j first e) 
   where
     of_heads : (i < j) ⊎ ((i ≡ j) × (first ≡ true)) → (j < k) ⊎ ((j ≡ k) × (second ≡ true)) → (nat_lt i k || ((i == k) && whole)) ≡ true
     of_heads (inl p) (inl q) = head_less i k whole (omega arith)
-    of_heads (inl p) (inr q) = let same : j ≡ k = q.0 in head_less i k whole (omega arith)
-    of_heads (inr p) (inl q) = let same : i ≡ j = p.0 in head_less i k whole (omega arith)
+    of_heads (inl p) (inr q) = head_less i k whole (omega (arith, p, q.0))
+    of_heads (inr p) (inl q) = head_less i k whole (omega (arith, p.0, q))
     of_heads (inr p) (inr q) = head_tie i k whole (p.0 ∙ q.0) (rest p.1 q.1)
 
 -- lists in the order of dictionaries
@@ -129,12 +126,10 @@ first_lower : (v w : PlainWalk) → is_lower v.start w.start ≡ true → is_fir
 first_lower v w h = or_left (is_lower v.start w.start) (are_one v.start w.start && is_not_after (map number_of v.steps) (map number_of w.steps)) h
 
 first_parts : (v w : PlainWalk) → is_first v w ≡ true → (is_lower v.start w.start ≡ true) ⊎ ((v.start ≡ w.start) × (is_not_after (map number_of v.steps) (map number_of w.steps) ≡ true))
-first_parts v w e = of_case (or_cases (is_lower v.start w.start) (are_one v.start w.start && is_not_after (map number_of v.steps) (map number_of w.steps)) e)
-  where
-    of_case : (is_lower v.start w.start ≡ true) ⊎ ((are_one v.start w.start && is_not_after (map number_of v.steps) (map number_of w.steps)) ≡ true) →
-        (is_lower v.start w.start ≡ true) ⊎ ((v.start ≡ w.start) × (is_not_after (map number_of v.steps) (map number_of w.steps) ≡ true))
-    of_case (inl h) = inl h
-    of_case (inr h) = let parts = and_parts (are_one v.start w.start) (is_not_after (map number_of v.steps) (map number_of w.steps)) h in inr (one_true v.start w.start parts.0, parts.1)
+first_parts v w e = elim (or_cases (is_lower v.start w.start) (are_one v.start w.start && is_not_after (map number_of v.steps) (map number_of w.steps)) e) [
+  | inl h ↦ inl h
+  | inr h ↦ (let parts = and_parts (are_one v.start w.start) (is_not_after (map number_of v.steps) (map number_of w.steps)) h in inr (one_true v.start w.start parts.0, parts.1))
+]
 
 first_total : (v w : PlainWalk) → (is_first v w ≡ true) ⊎ (is_first w v ≡ true)
 first_total v w = of_starts (lower_total v.start w.start) (lists_total (map number_of v.steps) (map number_of w.steps))
@@ -212,8 +207,7 @@ short_walk q h w free = of_labels (path_labels q h s.labels s.cost s.path)
         short =
             let few : length s.labels < spots_of q.board.bounds + 1 = s.short in
             let count : length s.labels ≡ length (p.seat ∷ p.first ∷ p.others) = ap length p.is in
-            let same : length (map direction (p.first ∷ p.others)) ≡ length (p.first ∷ p.others) = length-directions (p.first ∷ p.others) in
-            omega arith
+            omega (arith, few, count, length-map p.others direction)
 
         of_cost : (s.cost < total_of q.from q.to w + 1) ⊎ ((s.cost ≡ total_of q.from q.to w + 1) × (s.labels ≡ labels)) →
             (total_of q.from q.to (record { start = start_at q p.seat; steps = map direction (p.first ∷ p.others) }) < total_of q.from q.to w) ⊎ ((let v : PlainWalk = record { start = start_at q p.seat; steps = map direction (p.first ∷ p.others) } in v) ≡ w)
@@ -270,24 +264,22 @@ route_best q h r w e free = of_cost (all-at (λ v. is_no_worse q.from q.to r v �
     short : HasShortWalk q w
     short = short_walk q h w free
 
-    of_head : (total_of q.from q.to r < total_of q.from q.to short.walk) ⊎ ((total_of q.from q.to r ≡ total_of q.from q.to short.walk) × (is_first r short.walk ≡ true)) → total_of q.from q.to short.walk < total_of q.from q.to w →
-        total_of q.from q.to r < total_of q.from q.to w
-    of_head (inl p) less = omega arith
-    of_head (inr p) less = let same : total_of q.from q.to r ≡ total_of q.from q.to short.walk = p.0 in omega arith
-
     of_cost : is_no_worse q.from q.to r short.walk ≡ true → (total_of q.from q.to short.walk < total_of q.from q.to w) ⊎ (short.walk ≡ w) → is_no_worse q.from q.to r w ≡ true
     of_cost k (inl less) =
         head_less (total_of q.from q.to r) (total_of q.from q.to w) (is_first r w)
-        (of_head (by_head (total_of q.from q.to r) (total_of q.from q.to short.walk) (is_first r short.walk) k) less)
+        (elim (by_head (total_of q.from q.to r) (total_of q.from q.to short.walk) (is_first r short.walk) k) [
+          | inl p ↦ omega (arith, p, less)
+          | inr p ↦ omega (arith, p.0, less)
+        ])
     of_cost k (inr same) = subst (λ (v : PlainWalk). is_no_worse q.from q.to r v ≡ true) same k
 
 -- so none costs less
 pub route_cheapest : (q : Question) → IsQuestion q → (r w : PlainWalk) → route q.board q.from q.to ≡ Some r → is_free q.board q.from q.to w ≡ true → total_of q.from q.to r ≤ total_of q.from q.to w
-route_cheapest q h r w e free = of_head (by_head (total_of q.from q.to r) (total_of q.from q.to w) (is_first r w) (route_best q h r w e free))
-  where
-    of_head : (total_of q.from q.to r < total_of q.from q.to w) ⊎ ((total_of q.from q.to r ≡ total_of q.from q.to w) × (is_first r w ≡ true)) → total_of q.from q.to r ≤ total_of q.from q.to w
-    of_head (inl less) = omega arith
-    of_head (inr tie) = let same : total_of q.from q.to r ≡ total_of q.from q.to w = tie.0 in omega arith
+route_cheapest q h r w e free =
+    elim (by_head (total_of q.from q.to r) (total_of q.from q.to w) (is_first r w) (route_best q h r w e free)) [
+      | inl less ↦ omega (arith, less)
+      | inr tie ↦ omega (arith, tie.0)
+    ]
 
 -- where there is no route, no walk is free
 pub no_route : (q : Question) → IsQuestion q → (w : PlainWalk) → route q.board q.from q.to ≡ None → is_free q.board q.from q.to w ≡ true → ⊥

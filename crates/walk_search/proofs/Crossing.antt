@@ -175,6 +175,9 @@ stays a b w e f = omega (arith, ints)
 changes : (a b u w : ℤ) → (a +ℤ u) ≡ b → w ≡ u → (a +ℤ w) ≡ b
 changes a b u w e f = omega (arith, ints)
 
+down_too : (a b u v : ℤ) → (a +ℤ u) ≡ b → (b +ℤ v) ≡ a → v ≡ pos 0 → u ≡ pos 0
+down_too a b u v f g h = omega (arith, ints)
+
 -- one goes up where the other goes down
 upright_cross : (p : GridPoint) (d : Dir) (q : GridPoint) (e : Dir) → p.x ≡ q.x → east_of d ≡ east_of e → east_of d ≢ pos 0 → (p.y +ℤ north_of d) ≡ q.y → (q.y +ℤ north_of e) ≡ p.y → north_of d ≢ pos 0 → Crosses p d q e
 upright_cross p d q e here east some_east up down some_north = record {
@@ -196,17 +199,11 @@ upright_cross p d q e here east some_east up down some_north = record {
       (subst (λ (z : ℤ). unsigned_abs z % 2 ≡ 0) (ap₂ (λ (a u : ℤ). a +ℤ u) (sym here) (sym east)) (even_parts (step_from q e) l).0);
 }
   where
-    east_too : east_of e ≢ pos 0
-    east_too h = some_east (east ∙ h)
-
-    down_too : (a b u v : ℤ) → (a +ℤ u) ≡ b → (b +ℤ v) ≡ a → v ≡ pos 0 → u ≡ pos 0
-    down_too a b u v f g h = omega (arith, ints)
-
     mine : AreParts d (upright_of d) (level_of d)
     mine = parts d some_east some_north
 
     other : AreParts e (upright_of e) (level_of e)
-    other = parts e east_too (λ h. some_north (down_too p.y q.y (north_of d) (north_of e) up down h))
+    other = parts e (λ h. some_east (east ∙ h)) (λ h. some_north (down_too p.y q.y (north_of d) (north_of e) up down h))
 
 -- one goes east where the other goes west
 level_cross : (p : GridPoint) (d : Dir) (q : GridPoint) (e : Dir) → (p.x +ℤ east_of d) ≡ q.x → (q.x +ℤ east_of e) ≡ p.x → east_of d ≢ pos 0 → p.y ≡ q.y → north_of d ≡ north_of e → north_of d ≢ pos 0 → Crosses p d q e
@@ -229,17 +226,11 @@ level_cross p d q e up down some_east here north some_north = record {
       (subst (λ (z : ℤ). unsigned_abs z % 2 ≡ 0) (ap₂ (λ (a u : ℤ). a +ℤ u) (sym here) (sym north)) (even_parts (step_from q e) l).1);
 }
   where
-    north_too : north_of e ≢ pos 0
-    north_too h = some_north (north ∙ h)
-
-    down_too : (a b u v : ℤ) → (a +ℤ u) ≡ b → (b +ℤ v) ≡ a → v ≡ pos 0 → u ≡ pos 0
-    down_too a b u v f g h = omega (arith, ints)
-
     mine : AreParts d (upright_of d) (level_of d)
     mine = parts d some_east some_north
 
     other : AreParts e (upright_of e) (level_of e)
-    other = parts e (λ h. some_east (down_too p.x q.x (east_of d) (east_of e) up down h)) north_too
+    other = parts e (λ h. some_east (down_too p.x q.x (east_of d) (east_of e) up down h)) (λ h. some_north (north ∙ h))
 
 -- steps with one middle start at one point, or the first starts where the second ends, or they cross
 pub meeting : (p : GridPoint) (d : Dir) (q : GridPoint) (e : Dir) → step_from (doubled p) d ≡ step_from (doubled q) e → (p ≡ q) ⊎ ((p ≡ step_from q e) ⊎ Crosses p d q e)
@@ -266,8 +257,7 @@ meeting p d q e m =
 
 -- no step stays at its point
 pub no_step : (p : GridPoint) (d : Dir) → step_from p d ≡ p → ⊥
-no_step p d e = of_part (odd_part d)
-  where
-    of_part : (east_of d ≢ pos 0) ⊎ (north_of d ≢ pos 0) → ⊥
-    of_part (inl odd) = odd (no_sum p.x (east_of d) (ap (λ (r : GridPoint). r.x) e))
-    of_part (inr odd) = odd (no_sum p.y (north_of d) (ap (λ (r : GridPoint). r.y) e))
+no_step p d e = elim (odd_part d) [
+  | inl odd ↦ odd (no_sum p.x (east_of d) (ap (λ (r : GridPoint). r.x) e))
+  | inr odd ↦ odd (no_sum p.y (north_of d) (ap (λ (r : GridPoint). r.y) e))
+]

@@ -1,10 +1,9 @@
 -- A free walk that meets itself can be cut short: there is one that costs less.
-use Rattle.std.proofs.Common.{◌≡◌, refl, sym, ◌∙◌, ap, subst, ℕ, ◌+◌, ◌<◌, ◌≤◌, ◌⊎◌, inl, inr, true, false, eqb, List, [], ◌∷◌, ◌++◌, append_assoc, Option, Some, slice_get, arith}
+use Rattle.std.proofs.Common.{◌≡◌, refl, sym, ◌∙◌, ap, subst, ℕ, ◌+◌, ◌<◌, ◌≤◌, inl, inr, true, false, eqb, List, [], ◌∷◌, ◌++◌, append_assoc, Option, Some, slice_get, arith}
 use Rattle.std.specs.Prelude.{option_map}
-use Rattle.std.proofs.lemmas.Bool.{cases_Bool, eqb-true, false_from_ne_true, or_cases}
+use Rattle.std.proofs.lemmas.Bool.{cases_Bool, eqb-true, false_from_ne_true, or_cases, true≢false, false≢true}
 use Rattle.std.proofs.lemmas.List.{append-nil}
 use Rattle.octi_grid.specs.declared.dir.Dir.{Dir}
-use Rattle.octi_grid.specs.declared.dir.Dir.TheVariants as dir
 use Rattle.octi_grid.specs.declared.point.GridPoint.{GridPoint}
 use Rattle.octi_grid.specs.Ways.{after, are_one, doubled, reverse_of, step_from}
 use Rattle.octi_grid.specs.Costs.{step_cost, turn_between, way_cost}
@@ -17,7 +16,7 @@ use Rattle.walk_search.specs.Seats.{seat_cost}
 use Rattle.walk_search.specs.Routes.{allows, is_free, total_of}
 use Rattle.walk_search.specs.Moves.{Question, IsQuestion, ends_of, is_all_or_none, is_open, is_passable, starts_of}
 use Rattle.grid_board.proofs.Marks.{one_is}
-use Rattle.walk_search.proofs.Turning.{step_cost_from}
+use Rattle.walk_search.proofs.Turning.{step_cost_from, of_eight}
 use Rattle.walk_search.proofs.FreeWays.{Along, first_open, open_from, open_parts, passable_parts}
 use Rattle.walk_search.proofs.FreeWalks.{free_of_parts, never_still, parts_of_free, settled_at}
 use Rattle.walk_search.proofs.SeatFacts.{among_even}
@@ -85,7 +84,7 @@ free_by q h start (d ∷ ds) free =
     record { starts = f.starts; ends = f.ends; apart = f.apart; along = f.along; leaves = f.leaves; comes = f.comes }
 
 free_from : (q : Question) (start : GridPoint) (steps : List Dir) → IsFreeBy q start steps → is_free q.board q.from q.to (record { start = start; steps = steps }) ≡ true
-free_from q start [] f = let no : false ≡ true = f.leaves in absurd (let clash : ⊥ = cc in clash)
+free_from q start [] f = absurd (false≢true f.leaves)
 free_from q start (d ∷ ds) f = free_of_parts q start d ds (record { steps = refl; starts = f.starts; ends = f.ends; apart = f.apart; along = f.along; leaves = f.leaves; comes = f.comes })
 
 -- there is a free walk that costs less
@@ -127,31 +126,17 @@ last_behind (a ∷ b ∷ us) x xs = last_behind (b ∷ us) x xs
 
 -- a mask that allows one port and is all or none allows all
 allows_all : (mask : ℕ) → is_all_or_none mask ≡ true → (d e : Dir) → allows mask (Some d) ≡ true → allows mask (Some e) ≡ true
-allows_all mask whole d e h = of_case (or_cases (eqb mask 0) (eqb mask 255) whole)
+allows_all mask whole d e h = elim (or_cases (eqb mask 0) (eqb mask 255) whole) [
+  | inl z ↦ absurd (none d (subst (λ (m : ℕ). allows m (Some d) ≡ true) (eqb-true mask 0 z) h))
+  | inr z ↦ subst (λ (m : ℕ). allows m (Some e) ≡ true) (sym (eqb-true mask 255 z)) (all e)
+]
   where
     none : (c : Dir) → allows 0 (Some c) ≡ true → ⊥
-    none dir.N k = cc
-    none dir.NE k = cc
-    none dir.E k = cc
-    none dir.SE k = cc
-    none dir.S k = cc
-    none dir.SW k = cc
-    none dir.W k = cc
-    none dir.NW k = cc
+    none c k =
+        false≢true (sym (of_eight (λ e. allows 0 (Some e) ≡ false) refl refl refl refl refl refl refl refl c) ∙ k)
 
     all : (c : Dir) → allows 255 (Some c) ≡ true
-    all dir.N = refl
-    all dir.NE = refl
-    all dir.E = refl
-    all dir.SE = refl
-    all dir.S = refl
-    all dir.SW = refl
-    all dir.W = refl
-    all dir.NW = refl
-
-    of_case : (eqb mask 0 ≡ true) ⊎ (eqb mask 255 ≡ true) → allows mask (Some e) ≡ true
-    of_case (inl z) = absurd (none d (subst (λ (m : ℕ). allows m (Some d) ≡ true) (eqb-true mask 0 z) h))
-    of_case (inr z) = subst (λ (m : ℕ). allows m (Some e) ≡ true) (sym (eqb-true mask 255 z)) (all e)
+    all = of_eight (λ c. allows 255 (Some c) ≡ true) refl refl refl refl refl refl refl refl
 
 some_of_last : (a : Dir) (us : List Dir) → (d : Dir) × (option_map reverse_of (last_of (a ∷ us)) ≡ Some d)
 some_of_last a [] = (reverse_of a, refl)
@@ -159,24 +144,18 @@ some_of_last a (b ∷ us) = some_of_last b us
 
 -- a start or an end that a walk comes over between its ends is no node's point, so it is not settled, and has all ports
 start_free : (q : Question) → IsQuestion q → (p : GridPoint) → is_among (starts_of q) p ≡ true → is_passable q.board p ≡ true → is_all_or_none q.from.ports ≡ true
-start_free q h p among passes = of_free (cases_Bool q.from.is_free)
-  where
-    of_free : (q.from.is_free ≡ true) ⊎ (q.from.is_free ≡ false) → is_all_or_none q.from.ports ≡ true
-    of_free (inl free) = h.from_ports free
-    of_free (inr settled) =
-        let node : q.board.is_node p ≡ true = ap q.board.is_node (settled_at q.board q.from p settled among) ∙ h.from_node in
-        let clash : true ≡ false = sym node ∙ (passable_parts q.board p passes).0 in
-        absurd (let no : ⊥ = cc in no)
+start_free q h p among passes = elim (cases_Bool q.from.is_free) [
+  | inl free ↦ h.from_ports free
+  | inr settled ↦ (let node : q.board.is_node p ≡ true = ap q.board.is_node (settled_at q.board q.from p settled among) ∙ h.from_node in
+      absurd (true≢false (sym node ∙ (passable_parts q.board p passes).0)))
+]
 
 end_free : (q : Question) → IsQuestion q → (p : GridPoint) → is_among (ends_of q) p ≡ true → is_passable q.board p ≡ true → is_all_or_none q.to.ports ≡ true
-end_free q h p among passes = of_free (cases_Bool q.to.is_free)
-  where
-    of_free : (q.to.is_free ≡ true) ⊎ (q.to.is_free ≡ false) → is_all_or_none q.to.ports ≡ true
-    of_free (inl free) = h.to_ports free
-    of_free (inr settled) =
-        let node : q.board.is_node p ≡ true = ap q.board.is_node (settled_at q.board q.to p settled among) ∙ h.to_node in
-        let clash : true ≡ false = sym node ∙ (passable_parts q.board p passes).0 in
-        absurd (let no : ⊥ = cc in no)
+end_free q h p among passes = elim (cases_Bool q.to.is_free) [
+  | inl free ↦ h.to_ports free
+  | inr settled ↦ (let node : q.board.is_node p ≡ true = ap q.board.is_node (settled_at q.board q.to p settled among) ∙ h.to_node in
+      absurd (true≢false (sym node ∙ (passable_parts q.board p passes).0)))
+]
 
 -- steps that come back to where they began are two at least
 loop_cost : (p : GridPoint) (b : Dir) (bs : List Dir) → after p (b ∷ bs) ≡ p → 8 ≤ way_cost (b ∷ bs)
@@ -280,8 +259,7 @@ cut_loop q h start us b bs xs f back = of_front (last_step us) xs f back
     of_front : {front : List Dir} → HasLast front → (rest : List Dir) → IsFreeBy q start (front ++ ((b ∷ bs) ++ rest)) → after (after start front) (b ∷ bs) ≡ after start front → HasCheaper q start (front ++ ((b ∷ bs) ++ rest))
     of_front still [] g e =
         let same : start ≡ after start ((b ∷ bs) ++ []) = sym e ∙ ap (after start) (sym (append-nil (b ∷ bs))) in
-        let clash : true ≡ false = sym (one_is start (after start ((b ∷ bs) ++ [])) same) ∙ g.apart in
-        absurd (let no : ⊥ = cc in no)
+        absurd (true≢false (sym (one_is start (after start ((b ∷ bs) ++ [])) same) ∙ g.apart))
     of_front still (x ∷ rest) g e = loop_at_start q h start b bs x rest g e
     of_front (moves front y) [] g e =
         subst (HasCheaper q start) (sym (append_assoc front (y ∷ []) ((b ∷ bs) ++ [])))
@@ -299,7 +277,7 @@ open_axis q h p d axis passes here there =
       here = here;
       there = there;
       clear = false_from_ne_true (q.board.is_taken (step_from (doubled p) d))
-          (λ taken. let clash : true ≡ false = sym (h.board.ends_taken p d axis taken) ∙ (passable_parts q.board p passes).1 in (let no : ⊥ = cc in no));
+          (λ taken. true≢false (sym (h.board.ends_taken p d axis taken) ∙ (passable_parts q.board p passes).1));
     })
 
 -- a walk that crosses itself and goes on: from the end of the one diagonal straight to the end of the other

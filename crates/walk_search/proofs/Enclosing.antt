@@ -1,8 +1,9 @@
 -- Walks that are shut in come to no end.
-use Rattle.std.proofs.Common.{◌≡◌, refl, sym, ◌∙◌, ap, subst, ℕ, ◌+◌, ◌-◌, ◌<◌, ◌≤◌, ◌⊎◌, inl, inr, Bool, true, false, cond, not, leb, ◌||◌, ◌&&◌, List, [], ◌∷◌, ◌++◌, length, get_or, Option, Some, None, arith}
+use Rattle.std.proofs.Common.{◌≡◌, refl, sym, ◌∙◌, ap, subst, ℕ, ◌+◌, ◌-◌, ◌<◌, ◌≤◌, ◌⊎◌, inl, inr, Bool, true, false, cond, leb, ◌||◌, ◌&&◌, List, [], ◌∷◌, ◌++◌, length, get_or, Option, Some, None, arith, append_assoc}
 use Rattle.std.specs.List.{list_any}
-use Rattle.std.proofs.lemmas.Bool.{and_parts, and_from, ne_eqb, eq-eqb, cases_eq, leb-true}
-use Rattle.std.proofs.lemmas.List.{get_or_append_left, length-append, get_or-append_right}
+use Rattle.std.proofs.lemmas.Bool.{and_parts, and_from, ne_eqb, eq-eqb, cases_eq, leb-true, or_left, or_right}
+use Rattle.std.proofs.lemmas.List.Folds.{list_any_at}
+use Rattle.std.proofs.lemmas.List.{get_or_append_left, length-append, append-nil, get_or_push}
 use Rattle.octi_grid.specs.declared.dir.Dir.{Dir}
 use Rattle.octi_grid.specs.declared.point.GridPoint.{GridPoint}
 use Rattle.octi_grid.specs.Ways.{are_one, step_from}
@@ -18,9 +19,9 @@ use Rattle.walk_search.specs.Routes.{allows}
 use Rattle.walk_search.specs.Spots.{spots_of, spot_of}
 use Rattle.walk_search.specs.Moves.{Question, IsQuestion, IsMove, direction, ends_of, is_own_start, is_open, is_passable, is_shared_start, is_start, may_leave, space_of, start_at, starts_of}
 use Rattle.walk_search.specs.Enclosed.{leads_on, leaves_start, point_at, AreInside, AreReached, HasSteps, IsLonger, IsShutIn}
-use Rattle.walk_search.proofs.Numbered.{spot_of-none, spot_of-number}
+use Rattle.walk_search.proofs.Numbered.{spot_of-none, some_same}
 use Rattle.walk_search.proofs.SeatFacts.{among_stands, place_of, place_stands, stands_among}
-use Rattle.walk_search.proofs.Moving.{IsChosen, IsStepped, end_among, goal_parts, move_cases, moved, some_same}
+use Rattle.walk_search.proofs.Moving.{end_among, goal_parts, landed, seat_of, step_of}
 
 -- no step leads on where it is not open
 pub not_leading : (goes inside free : Bool) → free ≡ false → false ≡ (goes && (inside && free))
@@ -35,31 +36,19 @@ leads_inside q p d e =
     let next = (and_parts (is_inside q.board p) _ free).1 in
     (and_parts (is_inside q.board (step_from p d)) _ next).0
 
-pub not_true : (b : Bool) → not b ≡ true → b ≡ false
-not_true true e = cc
-not_true false e = refl
-
 -- a point that is among points is among more
 pub among_longer : (old new : List GridPoint) → IsLonger old new → (p : GridPoint) → is_among old p ≡ true → is_among new p ≡ true
 among_longer old new longer p e =
     stands_among p new (subst (λ (ps : List GridPoint). StandsIn p ps) (sym longer.is) (stands-left p old longer.more (among_stands p old e)))
 
 pub longer_same : (points : List GridPoint) → IsLonger points points
-longer_same points = record { more = []; is = sym (nothing points) }
-  where
-    nothing : (xs : List GridPoint) → xs ++ [] ≡ xs
-    nothing [] = refl
-    nothing (x ∷ xs) = ap (λ ys. x ∷ ys) (nothing xs)
+longer_same points = record { more = []; is = sym (append-nil points) }
 
 pub longer_both : (a b c : List GridPoint) → IsLonger a b → IsLonger b c → IsLonger a c
 longer_both a b c first second = record {
   more = first.more ++ second.more;
-  is = second.is ∙ ap (λ xs. xs ++ second.more) first.is ∙ joined a first.more second.more;
+  is = second.is ∙ ap (λ xs. xs ++ second.more) first.is ∙ append_assoc a first.more second.more;
 }
-  where
-    joined : (xs ys zs : List GridPoint) → (xs ++ ys) ++ zs ≡ xs ++ (ys ++ zs)
-    joined [] ys zs = refl
-    joined (x ∷ xs) ys zs = ap (λ us. x ∷ us) (joined xs ys zs)
 
 pub point_longer : (q : Question) (old new : List GridPoint) → IsLonger old new → (i : ℕ) → i < length old → point_at q new i ≡ point_at q old i
 point_longer q old new longer i below = ap (λ (ps : List GridPoint). get_or ps i q.from.at) longer.is ∙ get_or_append_left old longer.more q.from.at i below
@@ -69,27 +58,12 @@ length_longer old new longer = let long : length new ≡ length old + length lon
 
 -- one point more
 pub inside_more : (q : Question) (points : List GridPoint) (p : GridPoint) → AreInside q points → is_inside q.board p ≡ true → AreInside q (points ++ p ∷ [])
-inside_more q points p all one i below = of_case (cases_eq i (length points))
-  where
-    long : length (points ++ p ∷ []) ≡ length points + 1
-    long = length-append points (p ∷ [])
-
-    of_case : (i ≡ length points) ⊎ (i ≡ length points → ⊥) → is_inside q.board (point_at q (points ++ p ∷ []) i) ≡ true
-    of_case (inl e) =
-        let past : length points ≤ i = omega arith in
-        let none : i - length points ≡ 0 = omega arith in
-        ap (is_inside q.board) (get_or-append_right points (p ∷ []) (length points) i q.from.at refl past ∙ ap (λ (n : ℕ). get_or (p ∷ []) n q.from.at) none) ∙ one
-    of_case (inr apart) =
-        let inside : i < length points = omega (arith, long) in
-        ap (is_inside q.board) (get_or_append_left points (p ∷ []) q.from.at i inside) ∙ all i inside
-
--- the last point of a longer list is among it
-pub among_last : (points : List GridPoint) (p : GridPoint) → is_among (points ++ p ∷ []) p ≡ true
-among_last points p = stands_among p (points ++ p ∷ []) (last points)
-  where
-    last : (xs : List GridPoint) → StandsIn p (xs ++ p ∷ [])
-    last [] = inl refl
-    last (x ∷ xs) = inr (last xs)
+inside_more q points p all one i below = elim (cases_eq i (length points)) [
+  | inl e ↦ ap (is_inside q.board) (get_or_push points p q.from.at i (sym e)) ∙ one
+  | inr apart ↦ (let long : length (points ++ p ∷ []) ≡ length points + 1 = length-append points (p ∷ []) in
+      let inside : i < length points = omega (arith, long, below, apart) in
+      ap (is_inside q.board) (get_or_append_left points (p ∷ []) q.from.at i inside) ∙ all i inside)
+]
 
 -- what was followed stays followed
 pub steps_longer : (q : Question) (old new : List GridPoint) (p : GridPoint) (count : ℕ) → IsLonger old new → HasSteps q old p count → HasSteps q new p count
@@ -98,14 +72,10 @@ steps_longer q old new p count longer has n below leads = among_longer old new l
 -- one more direction
 pub steps_more : (q : Question) (old new : List GridPoint) (p : GridPoint) (count : ℕ) → IsLonger old new → HasSteps q old p count →
     (leads_on q p (direction count) ≡ true → is_among new (step_from p (direction count)) ≡ true) → HasSteps q new p (count + 1)
-steps_more q old new p count longer has one n below leads = of_case (cases_eq n count)
-  where
-    of_case : (n ≡ count) ⊎ (n ≡ count → ⊥) → is_among new (step_from p (direction n)) ≡ true
-    of_case (inl e) =
-        subst (λ (m : ℕ). is_among new (step_from p (direction m)) ≡ true) (sym e) (one (subst (λ (m : ℕ). leads_on q p (direction m) ≡ true) e leads))
-    of_case (inr apart) =
-        let inside : n < count = omega arith in
-        steps_longer q old new p count longer has n inside leads
+steps_more q old new p count longer has one n below leads = elim (cases_eq n count) [
+  | inl e ↦ subst (λ (m : ℕ). is_among new (step_from p (direction m)) ≡ true) (sym e) (one (subst (λ (m : ℕ). leads_on q p (direction m) ≡ true) e leads))
+  | inr apart ↦ steps_longer q old new p count longer has n (omega (arith, below, apart)) leads
+]
 
 -- the points are reached from the starts on
 pub reached_first : (q : Question) (points : List GridPoint) → points ≡ starts_of q → AreInside q (starts_of q) → AreReached q points 0
@@ -132,26 +102,15 @@ reached_more q old new followed r below longer inside steps = record {
 
 -- a start of walks of any group is a seat of the start
 start_among : (q : Question) (p : GridPoint) (group : ℕ) → is_start q p group ≡ true → is_among (starts_of q) p ≡ true
-start_among q p group e = of_group (cases_eq group 0)
-  where
-    of_group : (group ≡ 0) ⊎ (group ≡ 0 → ⊥) → is_among (starts_of q) p ≡ true
-    of_group (inl none) = (and_parts (is_among (starts_of q) p) _ (sym (ap (λ t. cond t (is_own_start q p) (is_shared_start q p group)) (eq-eqb group 0 none)) ∙ e)).0
-    of_group (inr some) =
-        let shared : is_shared_start q p group ≡ true = sym (ap (λ t. cond t (is_own_start q p) (is_shared_start q p group)) (ne_eqb group 0 some)) ∙ e in
-        let first = and_parts (leb group (length (starts_of q)) && are_one (start_at q (group - 1)) p) (is_among (ends_of q) p) shared in
-        let second = and_parts (leb group (length (starts_of q))) (are_one (start_at q (group - 1)) p) first.0 in
-        let few : group ≤ length (starts_of q) = leb-true group (length (starts_of q)) second.0 in
-        let below : group - 1 < length (starts_of q) = omega arith in
-        subst (λ (r : GridPoint). is_among (starts_of q) r ≡ true) (one_true (start_at q (group - 1)) p second.1)
-        (stands_among (start_at q (group - 1)) (starts_of q) (place_stands (starts_of q) (group - 1) q.from.at below))
-
-or_left : (a b : Bool) → a ≡ true → (a || b) ≡ true
-or_left true b e = refl
-or_left false b e = cc
-
-or_right : (a b : Bool) → b ≡ true → (a || b) ≡ true
-or_right true b e = refl
-or_right false b e = e
+start_among q p group e = elim (cases_eq group 0) [
+  | inl none ↦ (and_parts (is_among (starts_of q) p) _ (sym (ap (λ t. cond t (is_own_start q p) (is_shared_start q p group)) (eq-eqb group 0 none)) ∙ e)).0
+  | inr some ↦ (let shared : is_shared_start q p group ≡ true = sym (ap (λ t. cond t (is_own_start q p) (is_shared_start q p group)) (ne_eqb group 0 some)) ∙ e in
+      let first = and_parts (leb group (length (starts_of q)) && are_one (start_at q (group - 1)) p) (is_among (ends_of q) p) shared in
+      let second = and_parts (leb group (length (starts_of q))) (are_one (start_at q (group - 1)) p) first.0 in
+      let few : group ≤ length (starts_of q) = leb-true group (length (starts_of q)) second.0 in
+      subst (λ (r : GridPoint). is_among (starts_of q) r ≡ true) (one_true (start_at q (group - 1)) p second.1)
+      (stands_among (start_at q (group - 1)) (starts_of q) (place_stands (starts_of q) (group - 1) q.from.at (omega (arith, some, few)))))
+]
 
 -- where a walk leaves a spot by an open step, the step may lead on
 leaves_leads : (q : Question) (s : Spot) (d : Dir) → may_leave q s d ≡ true → is_open q.board s.at d ≡ true → leads_on q s.at d ≡ true
@@ -168,12 +127,9 @@ leaves_leads q s d leaves free = and_from (leaves_start q s.at d || is_passable 
 
 -- one of the ends is among the points
 any_among : (points : List GridPoint) (p : GridPoint) (ends : List GridPoint) → StandsIn p ends → is_among points p ≡ true → list_any (is_among points) ends ≡ true
-any_among points p [] stands e = absurd stands
-any_among points p (x ∷ ends) stands e = of_place stands (λ later. any_among points p ends later e)
-  where
-    of_place : (x ≡ p) ⊎ StandsIn p ends → (StandsIn p ends → list_any (is_among points) ends ≡ true) → (is_among points x || list_any (is_among points) ends) ≡ true
-    of_place (inl same) others = or_left (is_among points x) (list_any (is_among points) ends) (ap (is_among points) same ∙ e)
-    of_place (inr later) others = or_right (is_among points x) (list_any (is_among points) ends) (others later)
+any_among points p ends stands e =
+    let at = place_of ends p p stands in
+    list_any_at (is_among points) ends at.place p at.below (ap (is_among points) at.is ∙ e)
 
 -- a step leads from one of the points to another
 step_reached : (q : Question) (points : List GridPoint) → AreReached q points (length points) → (p : GridPoint) (l : ℕ) → l < 8 → is_among points p ≡ true → leads_on q p (direction l) ≡ true → is_among points (step_from p (direction l)) ≡ true
@@ -181,31 +137,18 @@ step_reached q points r p l below e leads =
     let place = place_of points p q.from.at (among_stands p points e) in
     subst (λ (x : GridPoint). leads_on q x (direction l) ≡ true → is_among points (step_from x (direction l)) ≡ true) place.is (r.steps place.place place.below l below) leads
 
--- where a move leads to, as a spot
-landed : (q : Question) → IsQuestion q → (n l m c : ℕ) (move : IsMove q n l m c) → spot_of q.board.bounds m ≡ Some move.landing
-landed q h n l m c move = ap (spot_of q.board.bounds) move.lands ∙ spot_of-number q.board.bounds move.landing (moved q h n l c move.landing move.from_spot move.goes).spot
-
 move_reached : (q : Question) (points : List GridPoint) → AreReached q points (length points) → (n l m c : ℕ) (move : IsMove q n l m c) (s : Spot) → spot_of q.board.bounds n ≡ Some s → is_among points s.at ≡ true → is_among points move.landing.at ≡ true
-move_reached q points r n l m c move s e here = of_case (move_cases q (spot_of q.board.bounds n) l move.landing c move.goes)
-  where
-    of_stepped : (x : Spot) → x ≡ s → IsStepped q x l move.landing c → is_among points move.landing.at ≡ true
-    of_stepped x same step =
-        let leads : leads_on q x.at (direction l) ≡ true = leaves_leads q x (direction l) step.leaves step.is_free in
-        let there : is_among points (step_from x.at (direction l)) ≡ true = step_reached q points r x.at l step.below (subst (λ (y : Spot). is_among points y.at ≡ true) (sym same) here) leads in
-        ap (λ (y : Spot). is_among points y.at) step.lands ∙ there
-
-    of_case : ((spot_of q.board.bounds n ≡ None) × IsChosen q l move.landing c) ⊎ ((x : Spot) × (spot_of q.board.bounds n ≡ Some x) × IsStepped q x l move.landing c) → is_among points move.landing.at ≡ true
-    of_case (inl k) = let clash : None ≡ Some s = sym k.0 ∙ e in let none : ⊥ = cc in absurd none
-    of_case (inr k) = of_stepped k.0 (some_same k.0 s (sym k.1 ∙ e)) k.2
+move_reached q points r n l m c move s e here =
+    let step = step_of q n l m c move s e in
+    ap (λ (y : Spot). is_among points y.at) step.lands
+    ∙ step_reached q points r s.at l step.below here (leaves_leads q s (direction l) step.leaves step.is_free)
 
 start_reached : (q : Question) (points : List GridPoint) → AreReached q points (length points) → (l m c : ℕ) (move : IsMove q (spots_of q.board.bounds) l m c) → is_among points move.landing.at ≡ true
-start_reached q points r l m c move = of_case (move_cases q (spot_of q.board.bounds (spots_of q.board.bounds)) l move.landing c move.goes)
-  where
-    of_case : ((spot_of q.board.bounds (spots_of q.board.bounds) ≡ None) × IsChosen q l move.landing c) ⊎ ((x : Spot) × (spot_of q.board.bounds (spots_of q.board.bounds) ≡ Some x) × IsStepped q x l move.landing c) → is_among points move.landing.at ≡ true
-    of_case (inl k) =
-        let start : is_among (starts_of q) (start_at q l) ≡ true = stands_among (start_at q l) (starts_of q) (place_stands (starts_of q) l q.from.at k.1.below) in
-        ap (λ (y : Spot). is_among points y.at) k.1.lands ∙ r.starts (start_at q l) start
-    of_case (inr k) = let clash : None ≡ Some k.0 = sym (spot_of-none q.board.bounds) ∙ k.1 in let none : ⊥ = cc in absurd none
+start_reached q points r l m c move =
+    let seat = seat_of q l m c move in
+    ap (λ (y : Spot). is_among points y.at) seat.lands
+    ∙ r.starts (start_at q l)
+    (stands_among (start_at q l) (starts_of q) (place_stands (starts_of q) l q.from.at seat.below))
 
 -- so from one of the points no walk comes to an end
 shut_in_at : (q : Question) → IsQuestion q → (points : List GridPoint) → AreReached q points (length points) → list_any (is_among points) (ends_of q) ≡ false →

@@ -1,7 +1,7 @@
 -- Paths from spot to spot are walks along open steps, and the other way round.
-use Rattle.std.proofs.Common.{◌≡◌, refl, sym, ◌∙◌, ap, subst, ℕ, ◌+◌, ◌<◌, ◌⊎◌, inl, inr, Bool, true, false, cond, ltb, ◌&&◌, List, [], ◌∷◌, map, Option, Some, None, arith}
+use Rattle.std.proofs.Common.{◌≡◌, refl, sym, ◌∙◌, ap, subst, ℕ, ◌+◌, ◌<◌, true, cond, ltb, ◌&&◌, List, [], ◌∷◌, map, Some, None, arith}
 use Rattle.std.specs.Prelude.{option_map}
-use Rattle.std.proofs.lemmas.Bool.{and_parts, and_from, lt-ltb, ne_eqb}
+use Rattle.std.proofs.lemmas.Bool.{and_parts, and_from, lt-ltb, ne_eqb, cond-true}
 use Rattle.octi_grid.specs.declared.dir.Dir.{Dir}
 use Rattle.octi_grid.specs.Ways.{after, number_of, reverse_of, step_from}
 use Rattle.octi_grid.specs.Costs.{step_cost, turn_between, way_cost}
@@ -13,9 +13,9 @@ use Rattle.walk_search.specs.Routes.{allows}
 use Rattle.walk_search.specs.Spots.{IsSpot, number_of_spot, spot_of}
 use Rattle.walk_search.specs.Moves.{Question, IsQuestion, IsMove, direction, end_cost, is_end, is_open, is_passable, is_start, may_end, may_leave, space_of, turn_from}
 use Rattle.walk_search.proofs.FreeWays.{Along, open_parts}
-use Rattle.walk_search.proofs.Numbered.{spot_of-number}
+use Rattle.walk_search.proofs.Numbered.{some_same}
 use Rattle.walk_search.proofs.Turning.{direction-number_of, number_below}
-use Rattle.walk_search.proofs.Moving.{IsChosen, IsGoal, IsStepped, goal_parts, move_cases, moved, some_same}
+use Rattle.walk_search.proofs.Moving.{goal_parts, landed, step_of}
 use Rattle.walk_search.proofs.Offering.{goal_of_spot, step_move}
 
 -- a walk goes on from a spot along open steps, and may end where it comes to
@@ -34,65 +34,42 @@ turns a d small = ap (λ t. cond t 0 (turn_between (direction a) d)) (ne_eqb a 8
 
 pub onward_of_path : (q : Question) → IsQuestion q → (n : ℕ) (s : Spot) (l : ℕ) (ls : List ℕ) (k : ℕ) → spot_of q.board.bounds n ≡ Some s → PathTo (space_of q) n (l ∷ ls) k →
     IsOnward q s (direction l) (map direction ls) k
-onward_of_path q h n s l [] k e p = of_case (move_cases q (spot_of q.board.bounds n) l m.landing p.1 m.goes)
+onward_of_path q h n s l [] k e (to, c, rest, move, goal, sum) =
+    let step = step_of q n l to c move s e in
+    let g = goal_parts q to rest goal in
+    let same : g.0 ≡ record { at = step_from s.at (direction l); arrival = l; group = s.group } =
+    some_same g.0 move.landing (sym g.1.spot ∙ landed q h n l to c move) ∙ step.lands in
+    let ends : may_end q (record { at = step_from s.at (direction l); arrival = l; group = s.group }) ≡ true = subst (λ (x : Spot). may_end q x ≡ true) same g.1.ends in
+    let parts = and_parts (is_end q (step_from s.at (direction l)) s.group) (allows q.to.ports (Some (reverse_of (direction l)))) ends in
+    let seat : rest ≡ seat_cost q.to.at (step_from s.at (direction l)) =
+    g.1.cost ∙ ap (λ (x : Spot). seat_cost q.to.at x.at) same in
+    record {
+      leaves = step.leaves;
+      along = step.is_free;
+      ends = parts.0;
+      port = parts.1;
+      cost = sums (step_cost (direction l)) (turn_from s.arrival (direction l)) c rest (seat_cost q.to.at (step_from s.at (direction l))) step.cost seat sum;
+    }
   where
-    m : IsMove q n l p.0 p.1
-    m = p.3
-
-    there : spot_of q.board.bounds p.0 ≡ Some m.landing
-    there = ap (spot_of q.board.bounds) m.lands ∙ spot_of-number q.board.bounds m.landing (moved q h n l p.1 m.landing m.from_spot m.goes).spot
-
-    at_end : IsStepped q s l m.landing p.1 → (g : Spot) → IsGoal q p.0 p.2 g → IsOnward q s (direction l) [] k
-    at_end c g goal =
-        let same : g ≡ record { at = step_from s.at (direction l); arrival = l; group = s.group } = some_same g m.landing (sym goal.spot ∙ there) ∙ c.lands in
-        let ends : may_end q (record { at = step_from s.at (direction l); arrival = l; group = s.group }) ≡ true = subst (λ (x : Spot). may_end q x ≡ true) same goal.ends in
-        let parts = and_parts (is_end q (step_from s.at (direction l)) s.group) (allows q.to.ports (Some (reverse_of (direction l)))) ends in
-        let seat : p.2 ≡ seat_cost q.to.at (step_from s.at (direction l)) = goal.cost ∙ ap (λ (x : Spot). seat_cost q.to.at x.at) same in
-        record {
-          leaves = c.leaves;
-          along = c.is_free;
-          ends = parts.0;
-          port = parts.1;
-          cost = sums (step_cost (direction l)) (turn_from s.arrival (direction l)) p.1 p.2 (seat_cost q.to.at (step_from s.at (direction l))) c.cost seat p.5;
-        }
-      where
-        sums : (a t c r z : ℕ) → c ≡ a + t → r ≡ z → k ≡ c + r → k ≡ t + a + z
-        sums a t c r z x y w = omega arith
-
-    of_case : ((spot_of q.board.bounds n ≡ None) × IsChosen q l m.landing p.1) ⊎ ((x : Spot) × (spot_of q.board.bounds n ≡ Some x) × IsStepped q x l m.landing p.1) → IsOnward q s (direction l) [] k
-    of_case (inl c) = let clash : None ≡ Some s = sym c.0 ∙ e in absurd (let no : ⊥ = cc in no)
-    of_case (inr c) =
-        let same : c.0 ≡ s = some_same c.0 s (sym c.1 ∙ e) in
-        let g = goal_parts q p.0 p.2 p.4 in
-        at_end (subst (λ (x : Spot). IsStepped q x l m.landing p.1) same c.2) g.0 g.1
-onward_of_path q h n s l (m ∷ ms) k e p = of_case (move_cases q (spot_of q.board.bounds n) l move.landing p.1 move.goes) (λ x there. onward_of_path q h p.0 x m ms p.2 there p.4)
-  where
-    move : IsMove q n l p.0 p.1
-    move = p.3
-
-    there : spot_of q.board.bounds p.0 ≡ Some move.landing
-    there = ap (spot_of q.board.bounds) move.lands ∙ spot_of-number q.board.bounds move.landing (moved q h n l p.1 move.landing move.from_spot move.goes).spot
-
-    go_on : IsStepped q s l move.landing p.1 → IsOnward q (record { at = step_from s.at (direction l); arrival = l; group = s.group }) (direction m) (map direction ms) p.2 → IsOnward q s (direction l) (map direction (m ∷ ms)) k
-    go_on c o = record {
-      leaves = c.leaves;
-      along = (c.is_free, sym (passes q (record { at = step_from s.at (direction l); arrival = l; group = s.group }) (direction m) c.below) ∙ o.leaves, o.along);
+    sums : (a t c r z : ℕ) → c ≡ a + t → r ≡ z → k ≡ c + r → k ≡ t + a + z
+    sums a t c r z x y w = omega arith
+onward_of_path q h n s l (m ∷ ms) k e (to, c, rest, move, path, sum) =
+    let step = step_of q n l to c move s e in
+    let o : IsOnward q (record { at = step_from s.at (direction l); arrival = l; group = s.group }) (direction m)
+    (map direction ms) rest =
+    subst (λ (x : Spot). IsOnward q x (direction m) (map direction ms) rest) step.lands
+    (onward_of_path q h to move.landing m ms rest (landed q h n l to c move) path) in
+    record {
+      leaves = step.leaves;
+      along = (step.is_free, sym (passes q (record { at = step_from s.at (direction l); arrival = l; group = s.group }) (direction m) step.below) ∙ o.leaves, o.along);
       ends = o.ends;
       port = o.port;
-      cost = sums (step_cost (direction l)) (turn_from s.arrival (direction l)) p.1 p.2 (turn_from l (direction m)) (turn_between (direction l) (direction m)) (way_cost (direction m ∷ map direction ms))
-          (seat_cost q.to.at (after (step_from s.at (direction l)) (direction m ∷ map direction ms))) c.cost (turns l (direction m) c.below) o.cost p.5;
+      cost = sums (step_cost (direction l)) (turn_from s.arrival (direction l)) c rest (turn_from l (direction m)) (turn_between (direction l) (direction m)) (way_cost (direction m ∷ map direction ms))
+          (seat_cost q.to.at (after (step_from s.at (direction l)) (direction m ∷ map direction ms))) step.cost (turns l (direction m) step.below) o.cost sum;
     }
-      where
-        sums : (a t c r f g w z : ℕ) → c ≡ a + t → f ≡ g → r ≡ f + w + z → k ≡ c + r → k ≡ t + (a + g + w) + z
-        sums a t c r f g w z x y u v = omega arith
-
-    of_case : ((spot_of q.board.bounds n ≡ None) × IsChosen q l move.landing p.1) ⊎ ((x : Spot) × (spot_of q.board.bounds n ≡ Some x) × IsStepped q x l move.landing p.1) →
-        ((x : Spot) → spot_of q.board.bounds p.0 ≡ Some x → IsOnward q x (direction m) (map direction ms) p.2) → IsOnward q s (direction l) (map direction (m ∷ ms)) k
-    of_case (inl c) later = let clash : None ≡ Some s = sym c.0 ∙ e in absurd (let no : ⊥ = cc in no)
-    of_case (inr c) later =
-        let same : c.0 ≡ s = some_same c.0 s (sym c.1 ∙ e) in
-        let step : IsStepped q s l move.landing p.1 = subst (λ (x : Spot). IsStepped q x l move.landing p.1) same c.2 in
-        go_on step (subst (λ (x : Spot). IsOnward q x (direction m) (map direction ms) p.2) step.lands (later move.landing there))
+  where
+    sums : (a t c r f g w z : ℕ) → c ≡ a + t → f ≡ g → r ≡ f + w + z → k ≡ c + r → k ≡ t + (a + g + w) + z
+    sums a t c r f g w z x y u v = omega arith
 
 -- the spot that a step leads to
 abbrev led : Spot → Dir → Spot
@@ -123,13 +100,9 @@ path_of_onward q h s d [] k on o = (
     sums : (a t z : ℕ) → k ≡ t + a + z → k ≡ a + t + z
     sums a t z x = omega arith
 
-    cond_same : (x y : Option ℕ) (t : Bool) → t ≡ true → cond t x y ≡ x
-    cond_same x y true e = refl
-    cond_same x y false e = let no : ⊥ = cc in absurd no
-
     ends : end_cost q (Some (led s d)) ≡ Some (seat_cost q.to.at (step_from s.at d))
     ends =
-        cond_same (Some (seat_cost q.to.at (step_from s.at d))) None (ltb (number_of d) 8 && may_end q (led s d))
+        cond-true (ltb (number_of d) 8 && may_end q (led s d)) (Some (seat_cost q.to.at (step_from s.at d))) None
         (and_from (ltb (number_of d) 8) (may_end q (led s d)) (lt-ltb (number_of d) 8 (number_below d))
         (and_from (is_end q (step_from s.at d) s.group) (allows q.to.ports (Some (reverse_of (direction (number_of d))))) o.ends
         (subst (λ (e : Dir). allows q.to.ports (Some (reverse_of e)) ≡ true) (sym (direction-number_of d)) o.port)))

@@ -1,7 +1,7 @@
 -- A walk goes on from a point: a recursion along its steps that says the same as the tests of a free walk.
-use Rattle.std.proofs.Common.{◌≡◌, refl, ◌∙◌, ap, ◌+◌, Bool, true, false, not, ◌&&◌, ◌||◌, List, [], ◌∷◌, length, take, drop, arith}
+use Rattle.std.proofs.Common.{◌≡◌, refl, ◌∙◌, ap, ◌+◌, Bool, true, false, not, ◌&&◌, List, [], ◌∷◌, length, take, drop, arith}
 use Rattle.std.specs.List.{list_all, list_any}
-use Rattle.std.proofs.lemmas.Bool.{and_parts, and_from}
+use Rattle.std.proofs.lemmas.Bool.{and_parts, and_from, not-true, not_from_false, or_from, or_parts}
 use Rattle.octi_grid.specs.declared.dir.Dir.{Dir}
 use Rattle.octi_grid.specs.declared.point.GridPoint.{GridPoint}
 use Rattle.octi_grid.specs.Ways.{after, doubled, doubled_from, points_from, step_from}
@@ -50,32 +50,24 @@ pub record IsOpenStep (board : BoardParts) (p : GridPoint) (d : Dir) : Type 0 wh
   pub there : is_inside board (step_from p d) ≡ true
   pub clear : board.is_taken (step_from (doubled p) d) ≡ false
 
-not_true : (t : Bool) → not t ≡ true → t ≡ false
-not_true true e = let no : ⊥ = cc in absurd no
-not_true false e = refl
-
-true_not : (t : Bool) → t ≡ false → not t ≡ true
-true_not true e = let no : ⊥ = cc in absurd no
-true_not false e = refl
-
 pub open_parts : (board : BoardParts) (p : GridPoint) (d : Dir) → is_open board p d ≡ true → IsOpenStep board p d
 open_parts board p d e =
     let first = and_parts (is_inside board p) (is_inside board (step_from p d) && not (board.is_taken (step_from (doubled p) d))) e in
     let second = and_parts (is_inside board (step_from p d)) (not (board.is_taken (step_from (doubled p) d))) first.1 in
-    record { here = first.0; there = second.0; clear = not_true (board.is_taken (step_from (doubled p) d)) second.1 }
+    record { here = first.0; there = second.0; clear = not-true (board.is_taken (step_from (doubled p) d)) second.1 }
 
 pub open_from : (board : BoardParts) (p : GridPoint) (d : Dir) → IsOpenStep board p d → is_open board p d ≡ true
 open_from board p d h =
     and_from (is_inside board p) (is_inside board (step_from p d) && not (board.is_taken (step_from (doubled p) d))) h.here
-    (and_from (is_inside board (step_from p d)) (not (board.is_taken (step_from (doubled p) d))) h.there (true_not (board.is_taken (step_from (doubled p) d)) h.clear))
+    (and_from (is_inside board (step_from p d)) (not (board.is_taken (step_from (doubled p) d))) h.there (not_from_false (board.is_taken (step_from (doubled p) d)) h.clear))
 
 pub passable_parts : (board : BoardParts) (p : GridPoint) → is_passable board p ≡ true → (board.is_node p ≡ false) × (board.is_taken (doubled p) ≡ false)
 passable_parts board p e =
     let parts = and_parts (not (board.is_node p)) (not (board.is_taken (doubled p))) e in
-    (not_true (board.is_node p) parts.0, not_true (board.is_taken (doubled p)) parts.1)
+    (not-true (board.is_node p) parts.0, not-true (board.is_taken (doubled p)) parts.1)
 
 pub passable_from : (board : BoardParts) (p : GridPoint) → board.is_node p ≡ false → board.is_taken (doubled p) ≡ false → is_passable board p ≡ true
-passable_from board p e f = and_from (not (board.is_node p)) (not (board.is_taken (doubled p))) (true_not (board.is_node p) e) (true_not (board.is_taken (doubled p)) f)
+passable_from board p e f = and_from (not (board.is_node p)) (not (board.is_taken (doubled p))) (not_from_false (board.is_node p) e) (not_from_false (board.is_taken (doubled p)) f)
 
 pub first_open : (board : BoardParts) (p : GridPoint) (d : Dir) (ds : List Dir) → Along board p (d ∷ ds) → is_open board p d ≡ true
 first_open board p d [] a = a
@@ -89,14 +81,10 @@ along_inside board p d [] a =
 along_inside board p d (e ∷ ds) a =
     and_from (is_inside board p) (list_all (is_inside board) (points_from (step_from p d) (e ∷ ds))) (open_parts board p d a.0).here (along_inside board (step_from p d) e ds a.2)
 
-or_false : (s t : Bool) → s ≡ false → t ≡ false → (s || t) ≡ false
-or_false true t e f = e
-or_false false t e f = f
-
 pub along_inner : (board : BoardParts) (p : GridPoint) (d : Dir) (ds : List Dir) → Along board p (d ∷ ds) → list_any board.is_node (inner_from p (d ∷ ds)) ≡ false
 along_inner board p d [] a = refl
 along_inner board p d (e ∷ ds) a =
-    or_false (board.is_node (step_from p d)) (list_any board.is_node (inner_from (step_from p d) (e ∷ ds))) (passable_parts board (step_from p d) a.1).0 (along_inner board (step_from p d) e ds a.2)
+    or_from (board.is_node (step_from p d)) (list_any board.is_node (inner_from (step_from p d) (e ∷ ds))) (passable_parts board (step_from p d) a.1).0 (along_inner board (step_from p d) e ds a.2)
 
 pub along_clear : (board : BoardParts) (test : GridPoint → Bool) (p : GridPoint) (d : Dir) (ds : List Dir) → ((r : GridPoint) → board.is_taken r ≡ false → test r ≡ true) →
     test (doubled p) ≡ true → test (doubled (after p (d ∷ ds))) ≡ true → Along board p (d ∷ ds) → list_all test (doubled_from p (d ∷ ds)) ≡ true
@@ -123,16 +111,12 @@ along_from board test p d (e ∷ ds) middles points inside inner clear =
     let i = and_parts (is_inside board p) (list_all (is_inside board) (points_from (step_from p d) (e ∷ ds))) inside in
     let c = and_parts (test (doubled p)) (test (step_from (doubled p) d) && list_all test (doubled_from (step_from p d) (e ∷ ds))) clear in
     let m = and_parts (test (step_from (doubled p) d)) (list_all test (doubled_from (step_from p d) (e ∷ ds))) c.1 in
-    let none = neither (board.is_node (step_from p d)) (list_any board.is_node (inner_from (step_from p d) (e ∷ ds))) inner in (
+    let none = or_parts (board.is_node (step_from p d)) (list_any board.is_node (inner_from (step_from p d) (e ∷ ds))) inner in (
       open_from board p d (record { here = i.0; there = first_inside (step_from p d) (e ∷ ds) i.1; clear = middles p d m.0 }),
       passable_from board (step_from p d) none.0 (points (step_from p d) none.0 (first_test (step_from p d) (e ∷ ds) m.1)),
       along_from board test (step_from p d) e ds middles points i.1 none.1 m.1,
     )
   where
-    neither : (s t : Bool) → (s || t) ≡ false → (s ≡ false) × (t ≡ false)
-    neither true t e = let no : ⊥ = cc in absurd no
-    neither false t e = (refl, e)
-
     first_inside : (r : GridPoint) (es : List Dir) → list_all (is_inside board) (points_from r es) ≡ true → is_inside board r ≡ true
     first_inside r [] h = (and_parts (is_inside board r) true h).0
     first_inside r (x ∷ es) h = (and_parts (is_inside board r) (list_all (is_inside board) (points_from (step_from r x) es)) h).0

@@ -1,8 +1,8 @@
 -- Routes up to a limit.
-use Rattle.std.proofs.Common.{◌≡◌, refl, sym, ◌∙◌, ap, ap₂, ℕ, ◌+◌, ◌*◌, ◌^◌, ◌<◌, inl, inr, Bool, true, false, cond, nat_le, List, ◌∷◌, length, map, Option, Some, None, ℤ, ◌-ℤ◌, unsigned_abs, arith}
+use Rattle.std.proofs.Common.{◌≡◌, refl, sym, ◌∙◌, ap, ap₂, ℕ, ◌+◌, ◌*◌, ◌^◌, ◌<◌, inl, inr, true, false, cond, List, ◌∷◌, length, map, Option, Some, None, ℤ, ◌-ℤ◌, unsigned_abs, arith}
 use Rattle.std.specs.Prelude.{IfSome}
 use Rattle.std.proofs.lemmas.Int.{ints}
-use Rattle.std.proofs.lemmas.Bool.{and_parts, leb-true}
+use Rattle.std.proofs.lemmas.Bool.{and_parts, lt-leb}
 use Rattle.octi_grid.specs.declared.point.GridPoint.{GridPoint}
 use Rattle.octi_grid.specs.Ways.{number_of}
 use Rattle.octi_grid.specs.Walks.{PlainWalk, cost_of, end_point}
@@ -70,14 +70,10 @@ within_upto board from to m n most found (inr h) = ap (if_within most) h.0 ∙ o
     q : Question
     q = record { board = board; from = settled from m; to = settled to n }
 
-    too_dear : (t : Bool) (a b : ℕ) → nat_le a b ≡ t → b < a → t ≡ false
-    too_dear true a b e above = absurd (omega (arith, leb-true a b e, above))
-    too_dear false a b e above = refl
-
     of_route : (r : Option PlainWalk) → route board (settled from m) (settled to n) ≡ r → if_within most None ≡ if_within most r
     of_route None e = refl
     of_route (Some w) e =
         let above = h.1 w e in
         let same = total_settled board from to m n w (route_free q w e) in
         let dear : most < cost_of w = omega (arith, above, same) in
-        sym (ap (λ t. cond t (Some w) None) (too_dear (nat_le (cost_of w) most) (cost_of w) most refl dear))
+        sym (ap (λ t. cond t (Some w) None) (lt-leb (cost_of w) most dear))

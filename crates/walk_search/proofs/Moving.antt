@@ -1,6 +1,6 @@
 -- Moves from spot to spot are steps that a search may rest on.
 use Rattle.std.proofs.Common.{◌≡◌, refl, sym, ◌∙◌, ap, ap₂, subst, ℕ, ◌+◌, ◌<◌, ◌≤◌, ◌⊎◌, inl, inr, Bool, true, false, cond, eqb, ltb, ◌&&◌, ◌||◌, length, Option, Some, None, arith}
-use Rattle.std.proofs.lemmas.Bool.{and_parts, cases_eq, eq-eqb, ltb-true, ne_eqb}
+use Rattle.std.proofs.lemmas.Bool.{and_parts, ltb-true, ne_eqb, cond_both, eqb-false, cases_Bool}
 use Rattle.least_path.proofs.Chosen.{all-at}
 use Rattle.octi_grid.specs.declared.dir.Dir.{Dir}
 use Rattle.octi_grid.specs.Ways.{are_one, reverse_of, step_from}
@@ -16,15 +16,12 @@ use Rattle.walk_search.specs.Routes.{allows}
 use Rattle.walk_search.specs.Reaching.{reach_of}
 use Rattle.walk_search.specs.Spots.{IsSpot, number_of_spot, spots_of, spot_of}
 use Rattle.walk_search.specs.Moves.{Question, IsQuestion, IsMove, ahead_at, chosen_seat, direction, end_cost, ends_of, group_of, is_end, is_open, is_other_end, is_passable, is_start, may_end, may_leave, move_of, seat_ahead, space_of, spot_ahead, start_at, starts_of, step_ahead, stepped, turn_from, turns_due}
-use Rattle.walk_search.proofs.Numbered.{number_below_spots, spot_of-number, spot_of-is}
+use Rattle.walk_search.proofs.Numbered.{number_below_spots, spot_of-number, spot_of-is, some_same, spot_of-none}
 use Rattle.walk_search.proofs.LeastReach.{reach_seat, reach_step}
 use Rattle.grid_board.proofs.Marks.{one_true}
 use Rattle.walk_search.proofs.Turning.{step_back, step_cost_from, step_there}
 use Rattle.walk_search.proofs.TurnsDue.{due, due_farther, due_first, due_once, turns_to}
 use Rattle.walk_search.proofs.SeatFacts.{all_index, among_stands, seats_cheap, seats_few, seats_inside}
-
-pub some_same : {X : Type 0} (x y : X) → Some x ≡ Some y → x ≡ y
-some_same x y e = cc
 
 pub cond_some : {X : Type 0} (t : Bool) (x y : X) → cond t (Some x) None ≡ Some y → (t ≡ true) × (x ≡ y)
 cond_some true x y e = (refl, some_same x y e)
@@ -86,14 +83,10 @@ pub start_cheap : (q : Question) (i : ℕ) → i < length (starts_of q) → seat
 start_cheap q i below = all_index (λ p. seat_cost q.from.at p ≤ 20) (starts_of q) (seats_cheap q.board q.from) i q.from.at below
 
 pub group_small : (q : Question) (i : ℕ) → i < length (starts_of q) → group_of q i < 10
-group_small q i below = of_test (is_among (ends_of q) (start_at q i))
-  where
-    few : length (starts_of q) ≤ 9
-    few = seats_few q.board q.from
-
-    of_test : (t : Bool) → cond t (i + 1) 0 < 10
-    of_test true = let small : length (starts_of q) ≤ 9 = few in omega arith
-    of_test false = omega arith
+group_small q i below =
+    let few : length (starts_of q) ≤ 9 = seats_few q.board q.from in
+    cond_both (is_among (ends_of q) (start_at q i)) (i + 1) 0 (λ n. n < 10) (λ e. omega (arith, few, below))
+    (λ e. omega arith)
 
 pub chosen_spot : (q : Question) → IsQuestion q → (i : ℕ) (landing : Spot) (c : ℕ) → IsChosen q i landing c → IsSpot q.board.bounds landing
 chosen_spot q h i landing c m =
@@ -106,21 +99,18 @@ stepped_spot q s l landing c h m =
     (record { inside = (and_parts (is_inside q.board (step_from s.at (direction l))) _ parts.1).0; arrival = omega (arith, m.below); group = h.group })
 
 pub turn_from_small : (a : ℕ) (d : Dir) → turn_from a d ≤ 4
-turn_from_small a d = of_test (eqb a 8)
-  where
-    of_test : (t : Bool) → cond t 0 (turn_between (direction a) d) ≤ 4
-    of_test true = omega arith
-    of_test false = turn_small (direction a) d
+turn_from_small a d =
+    cond_both (eqb a 8) 0 (turn_between (direction a) d) (λ n. n ≤ 4) (λ e. omega arith)
+    (λ e. turn_small (direction a) d)
 
 -- ---- what it costs at least to come to a spot rises by no more than a move costs
 
 seat_first : (q : Question) (p : GridPoint) → ahead_at q p 8 ≤ seat_cost q.from.at p + 1
 unfolding ahead_at seat_ahead
-seat_first q p = of_test (are_one q.from.at p)
-  where
-    of_test : (t : Bool) → cond t (reach_of q.from.at p) (reach_of q.from.at p + 1) ≤ seat_cost q.from.at p + 1
-    of_test true = omega (arith, reach_seat q.from.at p)
-    of_test false = omega (arith, reach_seat q.from.at p)
+seat_first q p =
+    cond_both (are_one q.from.at p) (reach_of q.from.at p) (reach_of q.from.at p + 1)
+    (λ n. n ≤ seat_cost q.from.at p + 1)
+    (λ e. omega (arith, reach_seat q.from.at p)) (λ e. omega (arith, reach_seat q.from.at p))
 
 -- by an allowed port from a seat no turn is due but where that is not the home
 start_due : (q : Question) (p : GridPoint) (l : ℕ) → l < 8 → allows q.from.ports (Some (direction l)) ≡ true →
@@ -161,7 +151,19 @@ unfolding ahead_at
 at_start q p n h = ap (λ t. cond t (seat_ahead q p) (step_ahead q p n)) h
 
 step_rises : (q : Question) (s : Spot) (l : ℕ) (landing : Spot) (c : ℕ) → s.arrival < 9 → IsStepped q s l landing c → ahead_at q (step_from s.at (direction l)) l ≤ ahead_at q s.at s.arrival + c
-step_rises q s l landing c small m = of_start (eqb s.arrival 8) refl
+step_rises q s l landing c small m = elim (cases_Bool (eqb s.arrival 8)) [
+  | inl e ↦ (let here : ahead_at q s.at s.arrival ≡ seat_ahead q s.at = at_start q s.at s.arrival e in
+      let leaves : (is_start q s.at s.group && allows q.from.ports (Some d)) ≡ true =
+      sym (ap (λ t. cond t (is_start q s.at s.group && allows q.from.ports (Some d)) (is_passable q.board s.at)) e) ∙ m.leaves in
+      let due_here = start_due q s.at l m.below (and_parts (is_start q s.at s.group) (allows q.from.ports (Some d)) leaves).1 in
+      omega (arith, after, here, due_here, cost))
+  | inr e ↦ (let a : Dir = direction s.arrival in
+      let below : s.arrival < 8 = omega (arith, small, eqb-false s.arrival 8 e) in
+      let here : reach_of q.from.at s.at + due q s.at a ≤ ahead_at q s.at s.arrival = arrived_ahead q s.at s.arrival below in
+      let farther = due_farther q s.at a d in
+      let turn : turn_from s.arrival d ≡ turn_between a d = ap (λ t. cond t 0 (turn_between a d)) e in
+      omega (arith, after, here, farther, turn, cost))
+]
   where
     d : Dir
     d = direction l
@@ -172,28 +174,6 @@ step_rises q s l landing c small m = of_start (eqb s.arrival 8) refl
     cost : c ≡ step_cost d + turn_from s.arrival d
     cost = m.cost
 
-    of_start : (t : Bool) → eqb s.arrival 8 ≡ t → ahead_at q (step_from s.at d) l ≤ ahead_at q s.at s.arrival + c
-    of_start true e =
-        let here : ahead_at q s.at s.arrival ≡ seat_ahead q s.at = at_start q s.at s.arrival e in
-        let leaves : (is_start q s.at s.group && allows q.from.ports (Some d)) ≡ true =
-        sym (ap (λ t. cond t (is_start q s.at s.group && allows q.from.ports (Some d)) (is_passable q.board s.at)) e) ∙ m.leaves in
-        let due_here = start_due q s.at l m.below (and_parts (is_start q s.at s.group) (allows q.from.ports (Some d)) leaves).1 in
-        omega (arith, after, here, due_here, cost)
-    of_start false e =
-        let a : Dir = direction s.arrival in
-        let below : s.arrival < 8 = of_other s.arrival small e in
-        let here : reach_of q.from.at s.at + due q s.at a ≤ ahead_at q s.at s.arrival = arrived_ahead q s.at s.arrival below in
-        let farther = due_farther q s.at a d in
-        let turn : turn_from s.arrival d ≡ turn_between a d = ap (λ t. cond t 0 (turn_between a d)) e in
-        omega (arith, after, here, farther, turn, cost)
-      where
-        of_other : (n : ℕ) → n < 9 → eqb n 8 ≡ false → n < 8
-        of_other n h k = of_case (cases_eq n 8)
-          where
-            of_case : (n ≡ 8) ⊎ (n ≡ 8 → ⊥) → n < 8
-            of_case (inl same) = let clash : true ≡ false = sym (eq-eqb n 8 same) ∙ k in cc
-            of_case (inr other) = omega (arith, h, other)
-
 -- what a move by numbers is
 pub record IsMoved (q : Question) (a l c : ℕ) (landing : Spot) : Type 0 where
   pub spot : IsSpot q.board.bounds landing
@@ -202,17 +182,19 @@ pub record IsMoved (q : Question) (a l c : ℕ) (landing : Spot) : Type 0 where
   pub rises : ahead_at q landing.at landing.arrival ≤ spot_ahead q (spot_of q.board.bounds a) + c
 
 pub moved : (q : Question) → IsQuestion q → (a l c : ℕ) (landing : Spot) → a < spots_of q.board.bounds + 1 → move_of q (spot_of q.board.bounds a) l ≡ Some (landing, c) → IsMoved q a l c landing
-moved q h a l c landing below goes = of_case (move_cases q (spot_of q.board.bounds a) l landing c goes)
+moved q h a l c landing below goes = elim (move_cases q (spot_of q.board.bounds a) l landing c goes) [
+  | inl m ↦ of_chosen m.1
+  | inr m ↦ of_stepped m.0 m.1 m.2
+]
   where
-    of_chosen : spot_of q.board.bounds a ≡ None → IsChosen q l landing c → IsMoved q a l c landing
-    of_chosen e m = record {
+    of_chosen : IsChosen q l landing c → IsMoved q a l c landing
+    of_chosen m = record {
       spot = chosen_spot q h l landing c m;
       cost_from = omega (arith, m.cost);
       cost_to = omega (arith, m.cost, start_cheap q l m.below);
       rises =
-          let at_seat : ahead_at q (start_at q l) 8 ≤ seat_cost q.from.at (start_at q l) + 1 = seat_first q (start_at q l) in
-          let cost : c ≡ seat_cost q.from.at (start_at q l) + 1 = m.cost in
-          subst (λ (s : Spot). ahead_at q s.at s.arrival ≤ spot_ahead q (spot_of q.board.bounds a) + c) (sym m.lands) (omega (arith, at_seat, cost));
+          subst (λ (s : Spot). ahead_at q s.at s.arrival ≤ spot_ahead q (spot_of q.board.bounds a) + c) (sym m.lands)
+          (omega (arith, seat_first q (start_at q l), m.cost));
     }
 
     of_stepped : (s : Spot) → spot_of q.board.bounds a ≡ Some s → IsStepped q s l landing c → IsMoved q a l c landing
@@ -227,9 +209,22 @@ moved q h a l c landing below goes = of_case (move_cases q (spot_of q.board.boun
               (subst (λ (x : Spot). ahead_at q x.at x.arrival ≤ ahead_at q s.at s.arrival + c) (sym m.lands) (step_rises q s l landing c of.spot.arrival m));
         }
 
-    of_case : ((spot_of q.board.bounds a ≡ None) × IsChosen q l landing c) ⊎ ((s : Spot) × (spot_of q.board.bounds a ≡ Some s) × IsStepped q s l landing c) → IsMoved q a l c landing
-    of_case (inl m) = of_chosen m.0 m.1
-    of_case (inr m) = of_stepped m.0 m.1 m.2
+-- where a move leads to, and what it is: from a spot a step, and from before every spot the choice of a seat
+pub landed : (q : Question) → IsQuestion q → (n l m c : ℕ) (move : IsMove q n l m c)
+    → spot_of q.board.bounds m ≡ Some move.landing
+landed q h n l m c move =
+    ap (spot_of q.board.bounds) move.lands
+    ∙ spot_of-number q.board.bounds move.landing (moved q h n l c move.landing move.from_spot move.goes).spot
+
+pub step_of : (q : Question) (n l m c : ℕ) (move : IsMove q n l m c) (s : Spot) → spot_of q.board.bounds n ≡ Some s
+    → IsStepped q s l move.landing c
+step_of q n l m c move s e =
+    stepped_parts q s l move.landing c (sym (ap (λ (o : Option Spot). move_of q o l) e) ∙ move.goes)
+
+pub seat_of : (q : Question) (l m c : ℕ) (move : IsMove q (spots_of q.board.bounds) l m c) → IsChosen q l move.landing c
+seat_of q l m c move =
+    chosen_parts q l move.landing c
+    (sym (ap (λ (o : Option Spot). move_of q o l) (spot_of-none q.board.bounds)) ∙ move.goes)
 
 -- where a walk may end
 pub record IsGoal (q : Question) (n k : ℕ) (s : Spot) : Type 0 where
@@ -273,10 +268,10 @@ is_space q h = record {
   not_free = λ a l s c m. (moved q h a l c m.landing m.from_spot m.goes).cost_from;
   cheap = λ a l s c m. (moved q h a l c m.landing m.from_spot m.goes).cost_to;
   from_state = λ a l s c m. m.from_spot;
-  to_state = λ a l s c m. in_range a l s c m;
+  to_state = in_range;
   end_state = λ a k e. (goal_parts q a k e).1.below;
   cheap_end = λ a k e. cheap_goal a k (goal_parts q a k e).0 (goal_parts q a k e).1;
-  consistent = λ a l s c m. rises a l s c m;
+  consistent = rises;
 }
   where
     landing_same : (a l s t c d : ℕ) (m : IsMove q a l s c) (n : IsMove q a l t d) → m.landing ≡ n.landing
@@ -284,18 +279,15 @@ is_space q h = record {
 
     in_range : (a l s c : ℕ) (m : IsMove q a l s c) → s < spots_of q.board.bounds + 1
     in_range a l s c m =
-        let below : number_of_spot q.board.bounds m.landing < spots_of q.board.bounds = number_below_spots q.board.bounds m.landing (moved q h a l c m.landing m.from_spot m.goes).spot in
-        let is : s ≡ number_of_spot q.board.bounds m.landing = m.lands in
-        omega arith
+        omega (arith, m.lands, number_below_spots q.board.bounds m.landing (moved q h a l c m.landing m.from_spot m.goes).spot)
 
     cheap_goal : (a k : ℕ) (s : Spot) → IsGoal q a k s → k ≤ 21
     cheap_goal a k s g =
         let cheap : seat_cost q.to.at s.at ≤ 20 = all-at (λ p. seat_cost q.to.at p ≤ 20) s.at (ends_of q) (seats_cheap q.board q.to) (among_stands s.at (ends_of q) (end_among q s g.ends)) in
-        let is : k ≡ seat_cost q.to.at s.at = g.cost in
-        omega arith
+        omega (arith, cheap, g.cost)
 
     rises : (a l s c : ℕ) (m : IsMove q a l s c) → spot_ahead q (spot_of q.board.bounds s) ≤ spot_ahead q (spot_of q.board.bounds a) + c
     rises a l s c m =
-        let is = moved q h a l c m.landing m.from_spot m.goes in
-        let spot : spot_of q.board.bounds s ≡ Some m.landing = ap (spot_of q.board.bounds) m.lands ∙ spot_of-number q.board.bounds m.landing is.spot in
-        subst (λ (o : Option Spot). spot_ahead q o ≤ spot_ahead q (spot_of q.board.bounds a) + c) (sym spot) is.rises
+        subst (λ (o : Option Spot). spot_ahead q o ≤ spot_ahead q (spot_of q.board.bounds a) + c)
+        (sym (landed q h a l s c m))
+        (moved q h a l c m.landing m.from_spot m.goes).rises

@@ -1,8 +1,7 @@
 -- What was looked at, as offers by their definitions.
-use Rattle.std.proofs.Common.{◌≡◌, refl, sym, ◌∙◌, ap, subst, ℕ, ◌+◌, ◌*◌, ◌<◌, ◌≤◌, Bool, true, false, cond, not, eqb, ltb, ◌&&◌, List, [], ◌∷◌, ◌++◌, length, Option, Some, None, arith}
+use Rattle.std.proofs.Common.{◌≡◌, refl, sym, ◌∙◌, ap, subst, ℕ, ◌+◌, ◌*◌, ◌<◌, ◌≤◌, Bool, true, false, cond, eqb, ◌&&◌, List, [], ◌∷◌, ◌++◌, length, Option, Some, None, arith}
 use Rattle.std.specs.declared.cmp.Reverse.{Reverse}
 use Rattle.std.proofs.lemmas.Int.{ints}
-use Rattle.std.specs.List.{flat_map, range_with_len}
 use Rattle.std.proofs.lemmas.Bool.{and_parts, lt-ltb, ne_eqb}
 use Rattle.least_path.proofs.Chosen.{all-at}
 use Rattle.octi_grid.specs.declared.dir.Dir.{Dir}
@@ -20,12 +19,12 @@ use Rattle.walk_search.specs.Spots.{IsSpot, number_of_place, number_of_spot, spo
 use Rattle.walk_search.specs.Moves.{Question, ahead_at, direction, end_cost, ends_of, group_of, is_end, is_open, is_start, may_end, space_of, spot_ahead, start_at, starts_of}
 use Rattle.octi_grid.specs.Legal.{is_among}
 use Rattle.state_search.specs.Rows.{IsRowLowered, IsRowOffered, with_row}
-use Rattle.walk_search.specs.Offers.{arrival_offer, back_offers, end_offer, offer_where, offers_at_end, passing_offers, seat_offer, seat_offers, spot_offers, start_offers}
+use Rattle.walk_search.specs.Offers.{arrival_offer, back_offers, end_offer, offer_where, passing_offers, seat_offer, seat_offers, spot_offers, start_offers}
 use Rattle.grid_board.proofs.Within.{inside_facts}
 use Rattle.walk_search.proofs.Numbered.{spot_of-none, spot_of-number}
 use Rattle.state_search.proofs.RowLowering.{row_lowered}
 use Rattle.walk_search.proofs.SeatFacts.{among_stands, seats_cheap}
-use Rattle.walk_search.proofs.Moving.{end_among, end_cost_parts}
+use Rattle.walk_search.proofs.Moving.{end_among}
 
 abbrev Table : Type 0
 Table = List (Option ℕ)
@@ -53,22 +52,6 @@ offered_in_row q s table row new queue longer place ahead cost on is number fits
     (row_lowered table row new queue longer place ahead s.arrival cost fits nine on.arrival h)
 
 -- where a walk may end
-pub nothing_at_end : (q : Question) (p : GridPoint) (group : ℕ) → is_end q p group ≡ false → offers_at_end q p group 8 ≡ []
-nothing_at_end q p group e = none (range_with_len 0 8)
-  where
-    one : (a : ℕ) → end_offer q p group a ≡ []
-    one a =
-        ap (λ t. offer_where q (record { at = p; arrival = a; group = group }) (cond (ltb a 8 && (t && allows q.to.ports (Some (reverse_of (direction a))))) (Some (seat_cost q.to.at p)) None)) e
-        ∙ of_test (ltb a 8)
-      where
-        of_test : (t : Bool) → offer_where q (record { at = p; arrival = a; group = group }) (cond (t && false) (Some (seat_cost q.to.at p)) None) ≡ []
-        of_test true = refl
-        of_test false = refl
-
-    none : (arrivals : List ℕ) → flat_map (end_offer q p group) arrivals ≡ []
-    none [] = refl
-    none (a ∷ arrivals) = ap (λ xs. xs ++ flat_map (end_offer q p group) arrivals) (one a) ∙ none arrivals
-
 pub offered_end : (q : Question) (p : GridPoint) (group arrival : ℕ) (table row new : Table) (queue longer : Waiting) (place ahead cost : ℕ) → is_end q p group ≡ true → arrival < 8 → IsSpot q.board.bounds (record { at = p; arrival = arrival; group = group }) →
     ahead ≡ ahead_at q p arrival → place ≡ number_of_place q.board.bounds p group → cost ≡ seat_cost q.to.at p → place * 9 + 9 ≤ length table → length row ≡ 9 →
     IsRowOffered (allows q.to.ports (Some (reverse_of (direction arrival)))) place ahead row new queue longer arrival cost →
@@ -97,13 +80,6 @@ end_cheap q p group e = all-at (λ r. seat_cost q.to.at r ≤ 20) p (ends_of q) 
 
 pub may_end_cheap : (q : Question) (s : Spot) → may_end q s ≡ true → seat_cost q.to.at s.at ≤ 20
 may_end_cheap q s e = all-at (λ p. seat_cost q.to.at p ≤ 20) s.at (ends_of q) (seats_cheap q.board q.to) (among_stands s.at (ends_of q) (end_among q s e))
-
-pub end_cost_small : (q : Question) (s : Spot) (k : ℕ) → end_cost q (Some s) ≡ Some k → k ≤ 20
-end_cost_small q s k e =
-    let parts = end_cost_parts q s k e in
-    let cheap : seat_cost q.to.at s.at ≤ 20 = all-at (λ p. seat_cost q.to.at p ≤ 20) s.at (ends_of q) (seats_cheap q.board q.to) (among_stands s.at (ends_of q) (end_among q s parts.1)) in
-    let is : k ≡ seat_cost q.to.at s.at = parts.2 in
-    omega arith
 
 -- before the choice of a seat
 pub offered_seat : (q : Question) (s : Spot) (cost i : ℕ) (old new : Table) (queue longer : Waiting) (at pays : ℕ) → (are_one (start_at q i) s.at && eqb (group_of q i) s.group) ≡ true → at ≡ spots_of q.board.bounds →
@@ -142,7 +118,3 @@ pub can_step_beside : (b : Bounds) (p : GridPoint) (d : Dir) → AreBounds b →
 can_step_beside b p d h e =
     let f = inside_facts b p e in
     record { across = omega (arith, ints, f.west, f.east, h.left.low, h.right.high, east_small d); along = omega (arith, ints, f.south, f.north, h.bottom.low, h.top.high, north_small d) }
-
-pub not_false : (b : Bool) → not b ≡ false → b ≡ true
-not_false true e = refl
-not_false false e = let no : ⊥ = cc in absurd no

@@ -1,7 +1,7 @@
 -- What is offered is offered to the goals, and to each spot from which a step leads on.
 use Rattle.std.proofs.Common.{◌≡◌, refl, sym, ◌∙◌, ap, ap₂, subst, ℕ, ◌+◌, ◌*◌, ◌/◌, ◌%◌, ◌<◌, ◌⊎◌, inl, inr, Bool, true, false, cond, eqb, ltb, ◌&&◌, [], ◌∷◌, ◌++◌, length, Option, Some, None, arith}
 use Rattle.std.specs.List.{range_with_len}
-use Rattle.std.proofs.lemmas.Bool.{and_parts, and_from, ltb-true, lt-ltb, eqb-true, ne_eqb, eq-eqb, cases_eq}
+use Rattle.std.proofs.lemmas.Bool.{and_parts, and_from, ltb-true, lt-ltb, eqb-true, ne_eqb, eq-eqb, cases_eq, cond-true}
 use Rattle.least_path.proofs.Chosen.{StandsIn, AllAre, all-append, all-map, all-flat_map, all-range, stands-left, stands-right, stands-map, stands-flat_map, stands-range}
 use Rattle.octi_grid.specs.declared.dir.Dir.{Dir}
 use Rattle.octi_grid.specs.declared.point.GridPoint.{GridPoint}
@@ -17,10 +17,10 @@ use Rattle.walk_search.specs.Spots.{IsSpot, number_of_spot, spots_of, spot_of}
 use Rattle.walk_search.specs.Moves.{Question, IsQuestion, IsMove, direction, end_at, end_cost, ends_of, group_of, is_open, is_passable, is_start, may_leave, move_of, space_of, start_at, starts_of, turn_from}
 use Rattle.walk_search.specs.Offers.{arrival_offer, arrival_offers, back_offers, end_offer, end_offers, offer_where, offers_at_end, passing_offers, place_offers, seat_offer, seat_offers, spot_offers, start_offers}
 use Rattle.grid_board.proofs.Marks.{one_same, one_true}
-use Rattle.walk_search.proofs.Numbered.{IsSpotOf, number_below_spots, spot_of-number, spot_of-is, spot_of-none, none_is_last}
+use Rattle.walk_search.proofs.Numbered.{IsSpotOf, number_below_spots, spot_of-number, spot_of-is, spot_of-none, none_is_last, some_same}
 use Rattle.walk_search.proofs.Turning.{step_back, step_there}
 use Rattle.walk_search.proofs.SeatFacts.{all_index, among_stands, place_of, seats_inside}
-use Rattle.walk_search.proofs.Moving.{IsChosen, IsGoal, IsStepped, end_among, goal_parts, move_cases, moved, some_same, to_inside}
+use Rattle.walk_search.proofs.Moving.{IsChosen, IsGoal, IsStepped, end_among, goal_parts, move_cases, to_inside, landed}
 
 -- a spot at which a walk may end
 end_inside : (q : Question) → IsQuestion q → (i : ℕ) → i < length (ends_of q) → is_inside q.board (end_at q i) ≡ true
@@ -86,10 +86,6 @@ goals_are_offered q h = goals_stand (space_of q) (end_offers q (10 * length (end
         at_goal a k g.0 g.1 (sym (ap (end_cost q) g.1.spot) ∙ sym (ap (λ t. cond t (end_cost q (spot_of q.board.bounds a)) None) (lt-ltb a (spots_of q.board.bounds + 1) g.1.below)) ∙ e)
 
 -- a step offers by the spot that it leads to
-cond_same : {X : Type 0} (x y : X) (t : Bool) → t ≡ true → cond t x y ≡ x
-cond_same x y true e = refl
-cond_same x y false e = let no : ⊥ = cc in absurd no
-
 pub seat_move : (q : Question) → IsQuestion q → (n : ℕ) (s : Spot) → n ≡ number_of_spot q.board.bounds s → s.arrival ≡ 8 → (i : ℕ) → i < length (starts_of q) → start_at q i ≡ s.at → group_of q i ≡ s.group →
     IsMove q (spots_of q.board.bounds) i n (seat_cost q.from.at (start_at q i) + 1)
 seat_move q h n s is arrival i below at group = record {
@@ -97,7 +93,8 @@ seat_move q h n s is arrival i below at group = record {
   landing = s;
   goes =
       ap (λ (o : Option Spot). move_of q o i) (spot_of-none q.board.bounds)
-      ∙ cond_same (Some (let m : Spot × ℕ = (record { at = start_at q i; arrival = 8; group = group_of q i }, seat_cost q.from.at (start_at q i) + 1) in m)) None (ltb i (length (starts_of q))) (lt-ltb i (length (starts_of q)) below)
+      ∙ cond-true (ltb i (length (starts_of q)))
+      (Some (let m : Spot × ℕ = (record { at = start_at q i; arrival = 8; group = group_of q i }, seat_cost q.from.at (start_at q i) + 1) in m)) None (lt-ltb i (length (starts_of q)) below)
       ∙ ap (λ (x : Spot). Some (let m : Spot × ℕ = (x, seat_cost q.from.at (start_at q i) + 1) in m)) same;
   lands = is;
 }
@@ -109,12 +106,12 @@ pub step_move : (q : Question) (x : Spot) (l n : ℕ) (s : Spot) → IsSpot q.bo
     s ≡ record { at = step_from x.at (direction l); arrival = l; group = x.group } → n ≡ number_of_spot q.board.bounds s →
     IsMove q (number_of_spot q.board.bounds x) l n (step_cost (direction l) + turn_from x.arrival (direction l))
 step_move q x l n s h below leaves free lands is = record {
-  from_spot = let small : number_of_spot q.board.bounds x < spots_of q.board.bounds = number_below_spots q.board.bounds x h in omega arith;
+  from_spot = omega (arith, number_below_spots q.board.bounds x h);
   landing = s;
   goes =
       ap (λ (o : Option Spot). move_of q o l) (spot_of-number q.board.bounds x h)
-      ∙ cond_same (Some (let m : Spot × ℕ = (record { at = step_from x.at (direction l); arrival = l; group = x.group }, step_cost (direction l) + turn_from x.arrival (direction l)) in m)) None
-      (ltb l 8 && (may_leave q x (direction l) && is_open q.board x.at (direction l)))
+      ∙ cond-true (ltb l 8 && (may_leave q x (direction l) && is_open q.board x.at (direction l)))
+      (Some (let m : Spot × ℕ = (record { at = step_from x.at (direction l); arrival = l; group = x.group }, step_cost (direction l) + turn_from x.arrival (direction l)) in m)) None
       (and_from (ltb l 8) (may_leave q x (direction l) && is_open q.board x.at (direction l)) (lt-ltb l 8 below) (and_from (may_leave q x (direction l)) (is_open q.board x.at (direction l)) leaves free))
       ∙ ap (λ (y : Spot). Some (let m : Spot × ℕ = (y, step_cost (direction l) + turn_from x.arrival (direction l)) in m)) (sym lands);
   lands = is;
@@ -143,14 +140,21 @@ seats_offer q h n cost s of arrival =
             )
         of_test false e = tt
 
-same_numbers : (q : Question) (x s : Spot) → IsSpot q.board.bounds x → IsSpot q.board.bounds s → number_of_spot q.board.bounds x ≡ number_of_spot q.board.bounds s → x ≡ s
-same_numbers q x s h k e = some_same x s (sym (spot_of-number q.board.bounds x h) ∙ ap (spot_of q.board.bounds) e ∙ spot_of-number q.board.bounds s k)
+landing_is : (q : Question) → IsQuestion q → (a l n c : ℕ) (m : IsMove q a l n c) (s : Spot)
+    → IsSpotOf q.board.bounds n s → m.landing ≡ s
+landing_is q h a l n c m s of =
+    some_same m.landing s
+    (sym (landed q h a l n c m) ∙ ap (spot_of q.board.bounds) of.number ∙ spot_of-number q.board.bounds s of.spot)
 
 seats_offered : (q : Question) → IsQuestion q → (n cost : ℕ) (s : Spot) → IsSpotOf q.board.bounds n s → s.arrival ≡ 8 → (a l c : ℕ) → IsMove q a l n c → StandsIn (a, cost + c) (seat_offers q s cost (length (starts_of q)))
-seats_offered q h n cost s of arrival a l c m = of_case (move_cases q (spot_of q.board.bounds a) l m.landing c m.goes)
+seats_offered q h n cost s of arrival a l c m = elim (move_cases q (spot_of q.board.bounds a) l m.landing c m.goes) [
+  | inl k ↦ of_chosen k.0 k.1
+  | inr k ↦ (let same : 8 ≡ l = sym arrival ∙ ap (λ (x : Spot). x.arrival) (sym is ∙ k.2.lands) in
+      absurd (omega (arith, same, k.2.below)))
+]
   where
     is : m.landing ≡ s
-    is = same_numbers q m.landing s (moved q h a l c m.landing m.from_spot m.goes).spot of.spot (sym m.lands ∙ of.number)
+    is = landing_is q h a l n c m s of
 
     of_chosen : spot_of q.board.bounds a ≡ None → IsChosen q l m.landing c → StandsIn (a, cost + c) (seat_offers q s cost (length (starts_of q)))
     of_chosen e k =
@@ -161,13 +165,6 @@ seats_offered q h n cost s of arrival a l c m = of_case (move_cases q (spot_of q
         (subst (λ (t : Bool). StandsIn {A = ℕ × ℕ} (a, cost + c) (cond t ((spots_of q.board.bounds, cost + (seat_cost q.from.at (start_at q l) + 1)) ∷ []) []))
         (sym (and_from (are_one (start_at q l) s.at) (eqb (group_of q l) s.group) (subst (λ (p : GridPoint). are_one (start_at q l) p ≡ true) at (one_same (start_at q l))) (eq-eqb (group_of q l) s.group group)))
         (inl (ap₂ (λ (x y : ℕ). (x, y)) (sym (none_is_last q.board.bounds a e)) (ap (λ x. cost + x) (sym k.cost)))))
-
-    of_case : ((spot_of q.board.bounds a ≡ None) × IsChosen q l m.landing c) ⊎ ((x : Spot) × (spot_of q.board.bounds a ≡ Some x) × IsStepped q x l m.landing c) → StandsIn (a, cost + c) (seat_offers q s cost (length (starts_of q)))
-    of_case (inl k) = of_chosen k.0 k.1
-    of_case (inr k) =
-        let small : l < 8 = k.2.below in
-        let same : 8 ≡ l = sym arrival ∙ ap (λ (x : Spot). x.arrival) (sym is ∙ k.2.lands) in
-        absurd (omega arith)
 
 -- what another spot offers
 abbrev back_of : Spot → GridPoint
@@ -190,9 +187,6 @@ backs_offer : (q : Question) → IsQuestion q → (n cost : ℕ) (s : Spot) → 
     AllAre (IsStepOffer (space_of q) n cost) (back_offers q (back_of s) s.group (came s) cost)
 backs_offer q h n cost s of small = of_open (is_open q.board (back_of s) (came s)) refl
   where
-    spots : ℕ → Spot
-    spots arrival = record { at = back_of s; arrival = arrival; group = s.group }
-
     one : is_open q.board (back_of s) (came s) ≡ true → (arrival : ℕ) → arrival < 9 → may_leave q (record { at = back_of s; arrival = arrival; group = s.group }) (came s) ≡ true →
         IsStepOffer (space_of q) n cost (arrival_offer q (back_of s) s.group (came s) cost arrival)
     one free arrival below leaves = (
@@ -227,10 +221,14 @@ backs_offer q h n cost s of small = of_open (is_open q.board (back_of s) (came s
 
 backs_offered : (q : Question) → IsQuestion q → (n cost : ℕ) (s : Spot) → IsSpotOf q.board.bounds n s → s.arrival < 8 → (a l c : ℕ) → IsMove q a l n c →
     StandsIn (a, cost + c) (back_offers q (back_of s) s.group (came s) cost)
-backs_offered q h n cost s of small a l c m = of_case (move_cases q (spot_of q.board.bounds a) l m.landing c m.goes)
+backs_offered q h n cost s of small a l c m = elim (move_cases q (spot_of q.board.bounds a) l m.landing c m.goes) [
+  | inl k ↦ (let same : s.arrival ≡ 8 = ap (λ (x : Spot). x.arrival) (sym is ∙ k.1.lands) in
+      absurd (omega (arith, same, small)))
+  | inr k ↦ of_stepped k.0 k.1 k.2
+]
   where
     is : m.landing ≡ s
-    is = same_numbers q m.landing s (moved q h a l c m.landing m.from_spot m.goes).spot of.spot (sym m.lands ∙ of.number)
+    is = landing_is q h a l n c m s of
 
     -- the spot x from which the step was made, by what is known of s
     at_back : (x : Spot) → s ≡ record { at = step_from x.at (direction l); arrival = l; group = x.group } → x ≡ record { at = back_of s; arrival = x.arrival; group = s.group }
@@ -273,30 +271,20 @@ backs_offered q h n cost s of small a l c m = of_case (move_cases q (spot_of q.b
         ap₂ (λ (i j : ℕ). (i, j)) (sym (of_x.number ∙ ap (number_of_spot q.board.bounds) here)) (ap (λ (l : ℕ). cost + (step_cost (direction l) + turn_from x.arrival (direction l))) (sym label) ∙ ap (λ (r : ℕ). cost + r) (sym k.cost)) in
         subst (λ (o : ℕ × ℕ). StandsIn o (back_offers q (back_of s) s.group (came s) cost)) offer (standing x.arrival of_x.spot.arrival free leaves)
 
-    of_case : ((spot_of q.board.bounds a ≡ None) × IsChosen q l m.landing c) ⊎ ((x : Spot) × (spot_of q.board.bounds a ≡ Some x) × IsStepped q x l m.landing c) → StandsIn (a, cost + c) (back_offers q (back_of s) s.group (came s) cost)
-    of_case (inl k) =
-        let same : s.arrival ≡ 8 = ap (λ (x : Spot). x.arrival) (sym is ∙ k.1.lands) in
-        absurd (omega arith)
-    of_case (inr k) = of_stepped k.0 k.1 k.2
-
 -- so each spot offers to those from which a step leads to it
 pub steps_are_offered : (q : Question) → IsQuestion q → (n cost : ℕ) → n < spots_of q.board.bounds + 1 → OfferSteps (space_of q) n cost (spot_offers q (spot_of q.board.bounds n) cost)
 steps_are_offered q h n cost below = of_spot (spot_of q.board.bounds n) refl
   where
     none : spot_of q.board.bounds n ≡ None → (a l c : ℕ) → IsMove q a l n c → ⊥
     none e a l c m =
-        let small : number_of_spot q.board.bounds m.landing < spots_of q.board.bounds = number_below_spots q.board.bounds m.landing (moved q h a l c m.landing m.from_spot m.goes).spot in
-        let last : n ≡ spots_of q.board.bounds = none_is_last q.board.bounds n e in
-        let is : n ≡ number_of_spot q.board.bounds m.landing = m.lands in
-        omega arith
+        let clash : Some m.landing ≡ None = sym (landed q h a l n c m) ∙ e in cc
 
     of_arrival : (s : Spot) → IsSpotOf q.board.bounds n s → (s.arrival ≡ 8) ⊎ (s.arrival ≡ 8 → ⊥) → OfferSteps (space_of q) n cost (spot_offers q (Some s) cost)
     of_arrival s of (inl e) =
         subst (λ (t : Bool). OfferSteps (space_of q) n cost (cond t (seat_offers q s cost (length (starts_of q))) (back_offers q (back_of s) s.group (came s) cost))) (sym (eq-eqb s.arrival 8 e))
         (steps_stand (space_of q) n cost (seat_offers q s cost (length (starts_of q))) (seats_offer q h n cost s of e) (seats_offered q h n cost s of e))
     of_arrival s of (inr apart) =
-        let small : s.arrival < 9 = of.spot.arrival in
-        let less : s.arrival < 8 = omega arith in
+        let less : s.arrival < 8 = omega (arith, apart, of.spot.arrival) in
         subst (λ (t : Bool). OfferSteps (space_of q) n cost (cond t (seat_offers q s cost (length (starts_of q))) (back_offers q (back_of s) s.group (came s) cost))) (sym (ne_eqb s.arrival 8 apart))
         (steps_stand (space_of q) n cost (back_offers q (back_of s) s.group (came s) cost) (backs_offer q h n cost s of less) (backs_offered q h n cost s of less))
 

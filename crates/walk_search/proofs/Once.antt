@@ -1,5 +1,5 @@
 -- A route has no doubled point twice.
-use Rattle.std.proofs.Common.{◌≡◌, refl, sym, ◌∙◌, ap, subst, ◌<◌, ◌≤◌, ◌⊎◌, inl, inr, true, not, ◌&&◌, List, [], ◌∷◌, ◌++◌, append_assoc, Some, arith}
+use Rattle.std.proofs.Common.{◌≡◌, refl, sym, ◌∙◌, ap, subst, ◌⊎◌, inl, inr, true, not, ◌&&◌, List, [], ◌∷◌, ◌++◌, append_assoc, Some, arith, ◌<◌}
 use Rattle.std.proofs.lemmas.Bool.{and_from, not_from_false}
 use Rattle.octi_grid.specs.declared.dir.Dir.{Dir}
 use Rattle.octi_grid.specs.declared.point.GridPoint.{GridPoint}
@@ -34,11 +34,10 @@ where_doubled r p [] (inl e) = inl (record { before = []; rest = []; splits = re
 where_doubled r p [] (inr h) = absurd h
 where_doubled r p (d ∷ ds) (inl e) = inl (record { before = []; rest = d ∷ ds; splits = refl; is = e })
 where_doubled r p (d ∷ ds) (inr (inl e)) = inr (record { before = []; step = d; rest = ds; splits = refl; is = e })
-where_doubled r p (d ∷ ds) (inr (inr h)) = further (where_doubled r (step_from p d) ds h)
-  where
-    further : IsPointOf r (step_from p d) ds ⊎ IsMiddleOf r (step_from p d) ds → IsPointOf r p (d ∷ ds) ⊎ IsMiddleOf r p (d ∷ ds)
-    further (inl a) = inl (record { before = d ∷ a.before; rest = a.rest; splits = ap (λ es. d ∷ es) a.splits; is = a.is })
-    further (inr a) = inr (record { before = d ∷ a.before; step = a.step; rest = a.rest; splits = ap (λ es. d ∷ es) a.splits; is = a.is })
+where_doubled r p (d ∷ ds) (inr (inr h)) = elim (where_doubled r (step_from p d) ds h) [
+  | inl a ↦ inl (record { before = d ∷ a.before; rest = a.rest; splits = ap (λ es. d ∷ es) a.splits; is = a.is })
+  | inr a ↦ inr (record { before = d ∷ a.before; step = a.step; rest = a.rest; splits = ap (λ es. d ∷ es) a.splits; is = a.is })
+]
 
 -- where a walk has a doubled point twice, there is one that costs less
 point_again : (q : Question) → IsQuestion q → (start : GridPoint) (us : List Dir) (d : Dir) (ds : List Dir) → IsFreeBy q start (us ++ d ∷ ds) → IsPointOf (doubled (after start us)) (step_from (after start us) d) ds →
@@ -96,18 +95,16 @@ distinct_from q h start steps f least us (d ∷ ds) e =
 
     no_point : In (doubled here) (middle ∷ doubled_from (step_from here d) ds) → ⊥
     no_point (inl k) = never_middle here here d k
-    no_point (inr k) = of_place (where_doubled (doubled here) (step_from here d) ds k)
-      where
-        of_place : IsPointOf (doubled here) (step_from here d) ds ⊎ IsMiddleOf (doubled here) (step_from here d) ds → ⊥
-        of_place (inl a) = none (point_again q h start us d ds whole a)
-        of_place (inr a) = never_middle here (after (step_from here d) a.before) a.step a.is
+    no_point (inr k) = elim (where_doubled (doubled here) (step_from here d) ds k) [
+      | inl a ↦ none (point_again q h start us d ds whole a)
+      | inr a ↦ never_middle here (after (step_from here d) a.before) a.step a.is
+    ]
 
     no_middle : In middle (doubled_from (step_from here d) ds) → ⊥
-    no_middle k = of_place (where_doubled middle (step_from here d) ds k)
-      where
-        of_place : IsPointOf middle (step_from here d) ds ⊎ IsMiddleOf middle (step_from here d) ds → ⊥
-        of_place (inl a) = never_middle (after (step_from here d) a.before) here d (sym a.is)
-        of_place (inr a) = none (middle_again q h start us d ds whole a)
+    no_middle k = elim (where_doubled middle (step_from here d) ds k) [
+      | inl a ↦ never_middle (after (step_from here d) a.before) here d (sym a.is)
+      | inr a ↦ none (middle_again q h start us d ds whole a)
+    ]
 
 pub route_once : (q : Question) → IsQuestion q → (r : PlainWalk) → route q.board q.from q.to ≡ Some r → are_distinct (doubled_of r) ≡ true
 route_once q h r e = distinct_from q h r.start r.steps (free_by q h r.start r.steps (route_free q r e)) least [] r.steps refl
@@ -115,5 +112,4 @@ route_once q h r e = distinct_from q h r.start r.steps (free_by q h r.start r.st
     least : HasCheaper q r.start r.steps → ⊥
     least c =
         let less : total_of q.from q.to c.walk < total_of q.from q.to r = c.less in
-        let most : total_of q.from q.to r ≤ total_of q.from q.to c.walk = route_cheapest q h r c.walk e c.free in
-        omega arith
+        omega (arith, less, route_cheapest q h r c.walk e c.free)

@@ -1,27 +1,21 @@
 -- Rounds of offers, and bounds on costs.
-use Rattle.std.proofs.Common.{◌≡◌, sym, ◌∙◌, ap, subst, ℕ, zero, suc, ◌+◌, ◌^◌, ◌<◌, List, [], ◌∷◌, ◌++◌, map, length, Option, Some, arith, append-nil}
+use Rattle.std.proofs.Common.{◌≡◌, sym, ◌∙◌, ap, subst, ℕ, ◌+◌, ◌^◌, ◌<◌, List, [], ◌∷◌, ◌++◌, map, Option, Some, arith, append-nil, ap₂}
 use Rattle.std.specs.List.{flat_map, range_with_len}
 use Rattle.std.specs.declared.cmp.Reverse.{Reverse}
 use Rattle.std.proofs.lemmas.List.Concat.{flat_map-append}
+use Rattle.std.proofs.lemmas.List.Folds.{flat_map-map}
 use Rattle.std.proofs.lemmas.List.FromFn.{map-range_with_len_more}
 use Rattle.state_search.specs.Searching.{AreLowered, IsLowered, IsSearch, known_at}
 use Rattle.state_search.proofs.Lowering.{lowered_both, lowered_more}
-use Rattle.walk_search.specs.Spots.{spots_of}
 use Rattle.walk_search.specs.Moves.{Question, IsQuestion, space_of}
 use Rattle.grid_board.proofs.Within.{few_cells}
 
-range_more : (a n : ℕ) → range_with_len a (suc n) ≡ range_with_len a n ++ (a + n) ∷ []
-range_more a zero = let same : a ≡ a + 0 = omega arith in ap (λ x. x ∷ []) same
-range_more a (suc n) =
-    let same : a + 1 + n ≡ a + suc n = omega arith in
-    ap (λ xs. a ∷ xs) (range_more (a + 1) n ∙ ap (λ x. range_with_len (a + 1) n ++ x ∷ []) same)
-
 flat_more : (f : ℕ → List (ℕ × ℕ)) (n : ℕ) → flat_map f (range_with_len 0 (n + 1)) ≡ flat_map f (range_with_len 0 n) ++ f n
 flat_more f n =
-    let next : n + 1 ≡ suc n = omega arith in
-    let none : 0 + n ≡ n = omega arith in
-    ap (λ m. flat_map f (range_with_len 0 m)) next ∙ ap (flat_map f) (range_more 0 n) ∙ flat_map-append f (range_with_len 0 n) ((0 + n) ∷ [])
-    ∙ ap (λ xs. flat_map f (range_with_len 0 n) ++ xs) (append-nil (f (0 + n)) ∙ ap f none)
+    sym (flat_map-map f (λ x. x) (range_with_len 0 (n + 1)))
+    ∙ ap (flat_map f) (map-range_with_len_more (λ x. x) 0 n n (omega arith))
+    ∙ flat_map-append f (map (λ x. x) (range_with_len 0 n)) (n ∷ [])
+    ∙ ap₂ (λ (xs ys : List (ℕ × ℕ)). xs ++ ys) (flat_map-map f (λ x. x) (range_with_len 0 n)) (append-nil (f n))
 
 -- one more round
 pub round_more : (ahead : ℕ → ℕ) (old new last : List (Option ℕ)) (queue longer longest : List (Reverse (ℕ × ℕ))) (f : ℕ → List (ℕ × ℕ)) (n : ℕ) →
@@ -43,7 +37,4 @@ offer_more ahead old new last queue longer longest f n all one =
 pub cost_small : (q : Question) → IsQuestion q → (table : List (Option ℕ)) (queue : List (Reverse (ℕ × ℕ))) (excepted : ℕ → ℕ → Type 0) (at cost : ℕ) → IsSearch (space_of q) table queue excepted →
     known_at table at ≡ Some cost → cost < 2 ^ 39
 cost_small q h table queue excepted at cost s known =
-    let bounded = s.bounded at cost known in
-    let each : length table ≡ spots_of q.board.bounds + 1 = s.each in
-    let few = few_cells q.board.bounds h.board.in_range in
-    omega arith
+    omega (arith, s.bounded at cost known, s.each, few_cells q.board.bounds h.board.in_range)

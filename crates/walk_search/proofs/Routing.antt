@@ -1,10 +1,11 @@
 -- The walk of the least path is the route.
-use Rattle.std.proofs.Common.{◌≡◌, refl, sym, ◌∙◌, ap, ap₂, subst, ℕ, zero, suc, ◌+◌, ◌<◌, ◌≤◌, ◌⊎◌, inl, inr, Bool, true, false, cond, nat_lt, ◌==◌, ◌&&◌, ◌||◌, List, [], ◌∷◌, map, filter, length, get_or, Option, Some, None, ℤ, pos, negsuc, ◌+ℤ◌, ◌<ℤ◌, arith}
+use Rattle.std.proofs.Common.{◌≡◌, refl, sym, ◌∙◌, ap, ap₂, subst, ℕ, zero, suc, ◌+◌, ◌<◌, ◌≤◌, ◌⊎◌, inl, inr, Bool, true, cond, nat_lt, ◌==◌, ◌&&◌, ◌||◌, List, [], ◌∷◌, map, filter, length, get_or, Option, Some, None, ℤ, ◌+ℤ◌, arith}
 use Rattle.std.specs.Prelude.{int_lt}
-use Rattle.std.specs.List.{flat_map}
+use Rattle.std.specs.List.{flat_map, list_all}
 use Rattle.std.specs.Ordering.{int_eq}
 use Rattle.std.proofs.lemmas.Int.{ints}
-use Rattle.std.proofs.lemmas.Bool.{and_parts, and_from, lt-ltb, eq-eqb, cases_order}
+use Rattle.std.proofs.lemmas.List.{length-map}
+use Rattle.std.proofs.lemmas.Bool.{and_parts, and_from, lt-ltb, eq-eqb, cases_order, cond_both, or_cases, or_left, or_right}
 use Rattle.least_path.specs.Orders.{LexLe}
 use Rattle.least_path.specs.Least.{is_not_after}
 use Rattle.least_path.proofs.Chosen.{StandsIn, AllAre, IsBetter, least-is, stands-map, stands-flat_map}
@@ -25,8 +26,8 @@ use Rattle.walk_search.specs.Spots.{spots_of}
 use Rattle.walk_search.specs.Moves.{Question, IsQuestion, direction, space_of, start_at, starts_of}
 use Rattle.walk_search.specs.Walked.{AreSteps, IsAnswer, walk_of_labels}
 use Rattle.grid_board.proofs.Marks.{one_is, one_true}
-use Rattle.walk_search.proofs.Turning.{direction-number_of, number_of-direction}
-use Rattle.walk_search.proofs.SeatFacts.{all_index, all_passed, place_stands}
+use Rattle.walk_search.proofs.Turning.{direction-number_of, number_of-direction, number_below}
+use Rattle.walk_search.proofs.SeatFacts.{all_index, all_passed, place_stands, all_filter}
 use Rattle.walk_search.proofs.Moving.{is_space}
 use Rattle.walk_search.proofs.Walking.{AreLabelsOfWalk, path_labels}
 use Rattle.walk_search.proofs.FreeWalks.{HasPath, IsPathWalk, path_of_walk, walk_of_path}
@@ -36,99 +37,41 @@ abbrev Rises : List GridPoint → Type 0
 Rises [] = Unit {0}
 Rises (p ∷ ps) = AllAre (λ r. is_lower p r ≡ true) ps × Rises ps
 
-all_filtered : (test : GridPoint → Bool) (P : GridPoint → Type 0) (xs : List GridPoint) → AllAre P xs → AllAre P (filter test xs)
-all_filtered test P [] all = tt
-all_filtered test P (x ∷ xs) all = of_test (test x) (all_filtered test P xs all.1)
-  where
-    of_test : (t : Bool) → AllAre P (filter test xs) → AllAre P (cond t (x ∷ filter test xs) (filter test xs))
-    of_test true rest = (all.0, rest)
-    of_test false rest = rest
-
 rises_filtered : (test : GridPoint → Bool) (xs : List GridPoint) → Rises xs → Rises (filter test xs)
 rises_filtered test [] rise = tt
-rises_filtered test (x ∷ xs) rise = of_test (test x) (rises_filtered test xs rise.1)
+rises_filtered test (x ∷ xs) rise =
+    let rest = rises_filtered test xs rise.1 in
+    cond_both (test x) (x ∷ filter test xs) (filter test xs) Rises
+    (λ e. (all_filter test (λ r. is_lower x r ≡ true) xs rise.0, rest)) (λ e. rest)
+
+-- shifts rise as the points do to which they lead
+lower_shift : (home : GridPoint) (s t : ℤ × ℤ) → (int_lt s.1 t.1 || (int_eq s.1 t.1 && int_lt s.0 t.0)) ≡ true
+    → is_lower (shifted home s) (shifted home t) ≡ true
+lower_shift home s t e = moved home.x home.y s.0 s.1 t.0 t.1 e
   where
-    of_test : (t : Bool) → Rises (filter test xs) → Rises (cond t (x ∷ filter test xs) (filter test xs))
-    of_test true rest = (all_filtered test (λ r. is_lower x r ≡ true) xs rise.0, rest)
-    of_test false rest = rest
+    moved : (x y a b c d : ℤ) → (int_lt b d || (int_eq b d && int_lt a c)) ≡ true
+        → (int_lt (y +ℤ b) (y +ℤ d) || (int_eq (y +ℤ b) (y +ℤ d) && int_lt (x +ℤ a) (x +ℤ c))) ≡ true
+    moved x y a b c d h = grind (arith, ints)
 
-lower_row : (home : GridPoint) (a b c d : ℤ) → b <ℤ d → is_lower (shifted home (a, b)) (shifted home (c, d)) ≡ true
-lower_row home a b c d h =
-    let less : int_lt (home.y +ℤ b) (home.y +ℤ d) ≡ true = less_after home.y b d h in
-    ap (λ t. t || (int_eq (home.y +ℤ b) (home.y +ℤ d) && int_lt (home.x +ℤ a) (home.x +ℤ c))) less
-  where
-    less_after : (z x y : ℤ) → x <ℤ y → int_lt (z +ℤ x) (z +ℤ y) ≡ true
-    less_after z x y k = grind (arith, ints)
+abbrev are_rising : List (ℤ × ℤ) → Bool
+are_rising [] = true
+are_rising (s ∷ ss) = list_all (λ (t : ℤ × ℤ). int_lt s.1 t.1 || (int_eq s.1 t.1 && int_lt s.0 t.0)) ss && are_rising ss
 
-lower_beside : (home : GridPoint) (a b c : ℤ) → a <ℤ c → is_lower (shifted home (a, b)) (shifted home (c, b)) ≡ true
-lower_beside home a b c h =
-    or_right (int_lt (home.y +ℤ b) (home.y +ℤ b)) (int_eq (home.y +ℤ b) (home.y +ℤ b) && int_lt (home.x +ℤ a) (home.x +ℤ c))
-    (and_from (int_eq (home.y +ℤ b) (home.y +ℤ b)) (int_lt (home.x +ℤ a) (home.x +ℤ c)) (same (home.y +ℤ b)) (less_after home.x a c h))
-  where
-    less_after : (z x y : ℤ) → x <ℤ y → int_lt (z +ℤ x) (z +ℤ y) ≡ true
-    less_after z x y k = grind (arith, ints)
+all_lower : (home : GridPoint) (s : ℤ × ℤ) (ss : List (ℤ × ℤ))
+    → list_all (λ (t : ℤ × ℤ). int_lt s.1 t.1 || (int_eq s.1 t.1 && int_lt s.0 t.0)) ss ≡ true
+    → AllAre (λ r. is_lower (shifted home s) r ≡ true) (map (shifted home) ss)
+all_lower home s [] e = tt
+all_lower home s (t ∷ ss) e = let parts = and_parts _ _ e in (lower_shift home s t parts.0, all_lower home s ss parts.1)
 
-    same : (z : ℤ) → int_eq z z ≡ true
-    same z = grind (arith, ints)
-
-    or_right : (s t : Bool) → t ≡ true → (s || t) ≡ true
-    or_right true t e = refl
-    or_right false t e = e
-
-low : ℤ
-low = negsuc 1
-
-low_mid : negsuc 1 <ℤ pos 0
-low_mid = omega (arith, ints)
-
-low_high : negsuc 1 <ℤ pos 2
-low_high = omega (arith, ints)
-
-mid_high : pos 0 <ℤ pos 2
-mid_high = omega (arith, ints)
-
-shifts_rise : (home : GridPoint) → Rises (map (shifted home) shifts)
-shifts_rise home = (
-  (lower_beside home (negsuc 1) (negsuc 1) (pos 0) low_mid, (lower_beside home (negsuc 1) (negsuc 1) (pos 2) low_high, (row1 (negsuc 1) (negsuc 1), (row1 (negsuc 1) (pos 0), (row1 (negsuc 1) (pos 2), (row2 (negsuc 1) (negsuc 1), (row2 (negsuc 1) (pos 0), (row2 (negsuc 1) (pos 2), tt)))))))),
-  (
-    (lower_beside home (pos 0) (negsuc 1) (pos 2) mid_high, (row1 (pos 0) (negsuc 1), (row1 (pos 0) (pos 0), (row1 (pos 0) (pos 2), (row2 (pos 0) (negsuc 1), (row2 (pos 0) (pos 0), (row2 (pos 0) (pos 2), tt))))))),
-    (
-      (row1 (pos 2) (negsuc 1), (row1 (pos 2) (pos 0), (row1 (pos 2) (pos 2), (row2 (pos 2) (negsuc 1), (row2 (pos 2) (pos 0), (row2 (pos 2) (pos 2), tt)))))),
-      (
-        (lower_beside home (negsuc 1) (pos 0) (pos 0) low_mid, (lower_beside home (negsuc 1) (pos 0) (pos 2) low_high, (row3 (negsuc 1) (negsuc 1), (row3 (negsuc 1) (pos 0), (row3 (negsuc 1) (pos 2), tt))))),
-        (
-          (lower_beside home (pos 0) (pos 0) (pos 2) mid_high, (row3 (pos 0) (negsuc 1), (row3 (pos 0) (pos 0), (row3 (pos 0) (pos 2), tt)))),
-          (
-            (row3 (pos 2) (negsuc 1), (row3 (pos 2) (pos 0), (row3 (pos 2) (pos 2), tt))),
-            (
-              (lower_beside home (negsuc 1) (pos 2) (pos 0) low_mid, (lower_beside home (negsuc 1) (pos 2) (pos 2) low_high, tt)),
-              (
-                (lower_beside home (pos 0) (pos 2) (pos 2) mid_high, tt),
-                (tt, tt),
-              ),
-            ),
-          ),
-        ),
-      ),
-    ),
-  ),
-)
-  where
-    row1 : (a c : ℤ) → is_lower (shifted home (a, negsuc 1)) (shifted home (c, pos 0)) ≡ true
-    row1 a c = lower_row home a (negsuc 1) c (pos 0) low_mid
-
-    row2 : (a c : ℤ) → is_lower (shifted home (a, negsuc 1)) (shifted home (c, pos 2)) ≡ true
-    row2 a c = lower_row home a (negsuc 1) c (pos 2) low_high
-
-    row3 : (a c : ℤ) → is_lower (shifted home (a, pos 0)) (shifted home (c, pos 2)) ≡ true
-    row3 a c = lower_row home a (pos 0) c (pos 2) mid_high
+shifts_rise : (home : GridPoint) (ss : List (ℤ × ℤ)) → are_rising ss ≡ true → Rises (map (shifted home) ss)
+shifts_rise home [] e = tt
+shifts_rise home (s ∷ ss) e = let parts = and_parts _ _ e in (all_lower home s ss parts.0, shifts_rise home ss parts.1)
 
 seats_rise : (board : BoardParts) (end : End) → Rises (seats_of board end)
-seats_rise board end = of_free end.is_free
-  where
-    of_free : (t : Bool) → Rises (cond t (filter (is_free_seat board end.at) (map (shifted end.at) shifts)) (end.at ∷ []))
-    of_free true = rises_filtered (is_free_seat board end.at) (map (shifted end.at) shifts) (shifts_rise end.at)
-    of_free false = (tt, tt)
+seats_rise board end =
+    cond_both end.is_free (filter (is_free_seat board end.at) (map (shifted end.at) shifts)) (end.at ∷ []) Rises
+    (λ e. rises_filtered (is_free_seat board end.at) (map (shifted end.at) shifts) (shifts_rise end.at shifts refl))
+    (λ e. (tt, tt))
 
 rises_at : (xs : List GridPoint) (i j : ℕ) (d : GridPoint) → Rises xs → i < j → j < length xs → is_lower (get_or xs i d) (get_or xs j d) ≡ true
 rises_at [] i j d rise h k = absurd (omega arith)
@@ -147,10 +90,9 @@ not_both p r e f = both p.x p.y r.x r.y e f
     both a b c d g h = grind (arith, ints)
 
 not_lower_self : (p r : GridPoint) → is_lower p r ≡ true → are_one p r ≡ true → ⊥
-not_lower_self p r e one = not_both p r e (subst (λ (x : GridPoint). is_lower r x ≡ true) (sym same) (subst (λ (x : GridPoint). is_lower x r ≡ true) same e))
-  where
-    same : p ≡ r
-    same = one_true p r one
+not_lower_self p r e one =
+    let same : p ≡ r = one_true p r one in
+    not_both p r e (subst (λ (x : GridPoint). is_lower r x ≡ true) (sym same) (subst (λ (x : GridPoint). is_lower x r ≡ true) same e))
 
 -- labels of steps and directions
 numbers_back : (ls : List ℕ) (q : Question) (p : GridPoint) → AreSteps q p ls → map number_of (map direction ls) ≡ ls
@@ -160,22 +102,6 @@ numbers_back (l ∷ ls) q p h = ap₂ (λ (x : ℕ) (xs : List ℕ). x ∷ xs) (
 pub directions_back : (ds : List Dir) → map direction (map number_of ds) ≡ ds
 directions_back [] = refl
 directions_back (d ∷ ds) = ap₂ (λ (x : Dir) (xs : List Dir). x ∷ xs) (direction-number_of d) (directions_back ds)
-
-or_true : (b : Bool) → (b || true) ≡ true
-or_true true = refl
-or_true false = refl
-
-or_first : (s t : Bool) → s ≡ true → (s || t) ≡ true
-or_first true t e = refl
-or_first false t e = let no : ⊥ = cc in absurd no
-
-or_second : (s t : Bool) → t ≡ true → (s || t) ≡ true
-or_second true t e = refl
-or_second false t e = e
-
-or_cases : (s t : Bool) → (s || t) ≡ true → (s ≡ true) ⊎ (t ≡ true)
-or_cases true t e = inl refl
-or_cases false t e = inr e
 
 -- the least path's walk is better than each free walk
 pub better : (q : Question) → IsQuestion q → (i l : ℕ) (ls : List ℕ) (k : ℕ) → i < length (starts_of q) → AreSteps q (start_at q i) (l ∷ ls) → IsLeastPathTo (space_of q) (spots_of q.board.bounds) (i ∷ l ∷ ls) k →
@@ -203,13 +129,11 @@ better q h i l ls k below steps least v free = record { no_worse = no_worse (cas
     at_most : mine ≤ other
     at_most =
         let low_cost : k ≤ other + 1 = least.least (path.place ∷ map number_of v.steps) (other + 1) path.path in
-        let cost : k ≡ mine + 1 = walk.cost in
-        omega arith
+        omega (arith, low_cost, walk.cost)
 
     first : mine ≡ other → LexLe (i ∷ l ∷ ls) (path.place ∷ map number_of v.steps)
     first e =
-        let cost : k ≡ mine + 1 = walk.cost in
-        let same : other + 1 ≡ k = omega arith in
+        let same : other + 1 ≡ k = omega (arith, e, walk.cost) in
         least.first (path.place ∷ map number_of v.steps) (subst (λ (n : ℕ). PathTo (space_of q) (spots_of q.board.bounds) (path.place ∷ map number_of v.steps) n) same path.path)
 
     lower : i < path.place → is_lower w.start v.start ≡ true
@@ -219,17 +143,18 @@ better q h i l ls k below steps least v free = record { no_worse = no_worse (cas
     same_start e = ap (start_at q) e ∙ path.starts
 
     is_first_of : LexLe (i ∷ l ∷ ls) (path.place ∷ map number_of v.steps) → is_first w v ≡ true
-    is_first_of (inl less) = or_first (is_lower w.start v.start) (are_one w.start v.start && is_not_after (map number_of w.steps) (map number_of v.steps)) (lower less)
+    is_first_of (inl less) = or_left (is_lower w.start v.start) (are_one w.start v.start && is_not_after (map number_of w.steps) (map number_of v.steps)) (lower less)
     is_first_of (inr tie) =
-        or_second (is_lower w.start v.start) (are_one w.start v.start && is_not_after (map number_of w.steps) (map number_of v.steps))
+        or_right (is_lower w.start v.start) (are_one w.start v.start && is_not_after (map number_of w.steps) (map number_of v.steps))
         (and_from (are_one w.start v.start) (is_not_after (map number_of w.steps) (map number_of v.steps)) (one_is w.start v.start (same_start tie.0))
         (ap (λ ns. is_not_after ns (map number_of v.steps)) numbers ∙ not_after (l ∷ ls) (map number_of v.steps) tie.1))
 
     no_worse : (mine ≡ other) ⊎ ((mine < other) ⊎ (other < mine)) → is_no_worse q.from q.to w v ≡ true
     no_worse (inl e) =
-        ap (λ t. nat_lt mine other || (t && is_first w v)) (eq-eqb mine other e) ∙ ap (λ t. nat_lt mine other || t) (is_first_of (first e)) ∙ or_true (nat_lt mine other)
-    no_worse (inr (inl less)) = ap (λ t. t || ((mine == other) && is_first w v)) (lt-ltb mine other less)
-    no_worse (inr (inr more)) = let small : mine ≤ other = at_most in absurd (omega arith)
+        or_right (nat_lt mine other) ((mine == other) && is_first w v)
+        (and_from (mine == other) (is_first w v) (eq-eqb mine other e) (is_first_of (first e)))
+    no_worse (inr (inl less)) = or_left (nat_lt mine other) ((mine == other) && is_first w v) (lt-ltb mine other less)
+    no_worse (inr (inr more)) = absurd (omega (arith, at_most, more))
 
     same_walk : v.start ≡ w.start → map number_of v.steps ≡ l ∷ ls → v ≡ w
     same_walk e f =
@@ -247,19 +172,14 @@ better q h i l ls k below steps least v free = record { no_worse = no_worse (cas
         (same_lists_both (map number_of v.steps) (l ∷ ls) tie.1 (sym (ap (is_not_after (map number_of v.steps)) numbers) ∙ parts.1))
 
     alone : (other < mine) ⊎ ((other ≡ mine) × (is_first v w ≡ true)) → v ≡ w
-    alone (inl less) = let small : mine ≤ other = at_most in absurd (omega arith)
+    alone (inl less) = absurd (omega (arith, at_most, less))
     alone (inr tie) = of_tie (first (sym tie.0)) (or_cases (is_lower v.start w.start) (are_one v.start w.start && is_not_after (map number_of v.steps) (map number_of w.steps)) tie.1)
 
 -- and is one of the free walks that are looked at
 pub a_direction : (d : Dir) → StandsIn d directions
-a_direction dir.N = inl refl
-a_direction dir.NE = inr (inl refl)
-a_direction dir.E = inr (inr (inl refl))
-a_direction dir.SE = inr (inr (inr (inl refl)))
-a_direction dir.S = inr (inr (inr (inr (inl refl))))
-a_direction dir.SW = inr (inr (inr (inr (inr (inl refl)))))
-a_direction dir.W = inr (inr (inr (inr (inr (inr (inl refl))))))
-a_direction dir.NW = inr (inr (inr (inr (inr (inr (inr (inl refl)))))))
+a_direction d =
+    subst (λ (e : Dir). StandsIn e directions) (direction-number_of d)
+    (place_stands directions (number_of d) dir.N (number_below d))
 
 in_lists : (n : ℕ) (ds : List Dir) → length ds ≤ n → StandsIn ds (lists_upto n)
 in_lists zero [] short = inl refl
@@ -272,15 +192,9 @@ stands_passed : (test : PlainWalk → Bool) (w : PlainWalk) (ws : List PlainWalk
 stands_passed test w [] e h = absurd h
 stands_passed test w (v ∷ vs) e (inl same) =
     subst (λ (t : Bool). StandsIn w (cond t (v ∷ filter test vs) (filter test vs))) (sym (ap test same ∙ e)) (inl same)
-stands_passed test w (v ∷ vs) e (inr h) = of_test (test v) (stands_passed test w vs e h)
-  where
-    of_test : (t : Bool) → StandsIn w (filter test vs) → StandsIn w (cond t (v ∷ filter test vs) (filter test vs))
-    of_test true later = inr later
-    of_test false later = later
-
-pub length-directions : (ls : List ℕ) → length (map direction ls) ≡ length ls
-length-directions [] = refl
-length-directions (l ∷ ls) = ap suc (length-directions ls)
+stands_passed test w (v ∷ vs) e (inr h) =
+    let later = stands_passed test w vs e h in
+    cond_both (test v) (v ∷ filter test vs) (filter test vs) (StandsIn w) (λ t. inr later) (λ t. later)
 
 pub is_looked_at : (q : Question) (i : ℕ) (steps : List Dir) → i < length (starts_of q) → length steps ≤ most_steps q.board → is_free q.board q.from q.to (record { start = start_at q i; steps = steps }) ≡ true →
     StandsIn (let w : PlainWalk = record { start = start_at q i; steps = steps } in w) (free_walks q.board q.from q.to)
@@ -313,8 +227,7 @@ best_walk_is_route q h i l ls k below steps least =
     short : length (map direction (l ∷ ls)) ≤ most_steps q.board
     short =
         let few : length (i ∷ l ∷ ls) < spots_of q.board.bounds + 1 = short_enough (space_of q) (is_space q h) (spots_of q.board.bounds) (i ∷ l ∷ ls) k least.path least.least in
-        let same : length (map direction (l ∷ ls)) ≡ length (l ∷ ls) = length-directions (l ∷ ls) in
-        omega arith
+        omega (arith, few, length-map ls direction)
 
 -- the answer to a question is the route
 pub answer_is_route : (q : Question) → IsQuestion q → (o : Option PlainWalk) → IsAnswer q o → o ≡ route q.board q.from q.to

@@ -1,9 +1,10 @@
 -- Seats lie on the board, cost little, and are few.
-use Rattle.std.proofs.Common.{◌≡◌, refl, sym, ◌∙◌, ap, subst, ℕ, zero, suc, ◌+◌, ◌%◌, ◌<◌, ◌≤◌, ◌⊎◌, inl, inr, Bool, true, false, cond, eqb, not, ◌&&◌, ◌||◌, List, [], ◌∷◌, ◌++◌, length, get_or, drop, map, filter, append_assoc, ℤ, pos, negsuc, ◌+ℤ◌, ◌-ℤ◌, arith}
+use Rattle.std.proofs.Common.{◌≡◌, refl, sym, ◌∙◌, ap, subst, ℕ, zero, suc, ◌+◌, ◌%◌, ◌<◌, ◌≤◌, inl, inr, Bool, true, false, cond, eqb, not, ◌&&◌, ◌||◌, List, [], ◌∷◌, ◌++◌, length, get_or, drop, map, filter, append_assoc, ℤ, pos, negsuc, ◌+ℤ◌, ◌-ℤ◌, arith, lit≤}
 use Rattle.std.specs.Prelude.{unsigned_abs}
 use Rattle.std.proofs.lemmas.Int.{ints}
 use Rattle.std.proofs.lemmas.List.{drop_more}
-use Rattle.std.proofs.lemmas.Bool.{and_from, and_parts, eq-eqb, eqb-true}
+use Rattle.std.proofs.lemmas.List.Sums.{count_by-le-length, length-filter}
+use Rattle.std.proofs.lemmas.Bool.{and_from, and_parts, cond_both, eq-eqb, eqb-true, or_cases, or_left, or_right}
 use Rattle.least_path.proofs.Chosen.{StandsIn, AllAre, all-at}
 use Rattle.octi_grid.specs.declared.point.GridPoint.{GridPoint}
 use Rattle.octi_grid.specs.Ways.{are_one, doubled}
@@ -15,27 +16,15 @@ use Rattle.grid_board.proofs.Marks.{one_true, one_is}
 
 pub all_filter : {X : Type 0} (test : X → Bool) (P : X → Type 0) (xs : List X) → AllAre P xs → AllAre P (filter test xs)
 all_filter test P [] all = tt
-all_filter {X = X} test P (x ∷ xs) all = of_test (test x) (all_filter test P xs all.1)
-  where
-    of_test : (t : Bool) → AllAre P (filter test xs) → AllAre P (cond t (x ∷ filter test xs) (filter test xs))
-    of_test true rest = (all.0, rest)
-    of_test false rest = rest
+all_filter test P (x ∷ xs) all =
+    let rest = all_filter test P xs all.1 in
+    cond_both (test x) (x ∷ filter test xs) (filter test xs) (AllAre P) (λ e. (all.0, rest)) (λ e. rest)
 
 pub all_passed : {X : Type 0} (test : X → Bool) (P : X → Type 0) (xs : List X) → ((x : X) → test x ≡ true → P x) → AllAre P (filter test xs)
 all_passed test P [] passed = tt
-all_passed {X = X} test P (x ∷ xs) passed = of_test (test x) refl (all_passed test P xs passed)
-  where
-    of_test : (t : Bool) → test x ≡ t → AllAre P (filter test xs) → AllAre P (cond t (x ∷ filter test xs) (filter test xs))
-    of_test true e rest = (passed x e, rest)
-    of_test false e rest = rest
-
-filter_few : {X : Type 0} (test : X → Bool) (xs : List X) → length (filter test xs) ≤ length xs
-filter_few test [] = omega arith
-filter_few {X = X} test (x ∷ xs) = of_test (test x) (filter_few test xs)
-  where
-    of_test : (t : Bool) → length (filter test xs) ≤ length xs → length (cond t (x ∷ filter test xs) (filter test xs)) ≤ length (x ∷ xs)
-    of_test true rest = omega arith
-    of_test false rest = omega arith
+all_passed test P (x ∷ xs) passed =
+    let rest = all_passed test P xs passed in
+    cond_both (test x) (x ∷ filter test xs) (filter test xs) (AllAre P) (λ e. (passed x e, rest)) (λ e. rest)
 
 pub all_index : {X : Type 0} (P : X → Type 0) (xs : List X) → AllAre P xs → (i : ℕ) (d : X) → i < length xs → P (get_or xs i d)
 all_index P [] all i d below = absurd (omega arith)
@@ -43,26 +32,18 @@ all_index P (x ∷ xs) all zero d below = all.0
 all_index P (x ∷ xs) all (suc i) d below = all_index P xs all.1 i d (omega arith)
 
 -- a point that is among others stands there, at a place
-or_cases : (s t : Bool) → (s || t) ≡ true → (s ≡ true) ⊎ (t ≡ true)
-or_cases true t e = inl refl
-or_cases false t e = inr e
-
 pub among_stands : (p : GridPoint) (ps : List GridPoint) → is_among ps p ≡ true → StandsIn p ps
 among_stands p [] e = let no : ⊥ = cc in absurd no
-among_stands p (q ∷ qs) e = of_case (or_cases (are_one p q) (is_among qs p) e) (among_stands p qs)
-  where
-    of_case : (are_one p q ≡ true) ⊎ (is_among qs p ≡ true) → (is_among qs p ≡ true → StandsIn p qs) → StandsIn p (q ∷ qs)
-    of_case (inl h) later = inl (sym (one_true p q h))
-    of_case (inr h) later = inr (later h)
+among_stands p (q ∷ qs) e =
+    elim (or_cases (are_one p q) (is_among qs p) e) [
+      | inl h ↦ inl (sym (one_true p q h))
+      | inr h ↦ inr (among_stands p qs h)
+    ]
 
 pub stands_among : (p : GridPoint) (ps : List GridPoint) → StandsIn p ps → is_among ps p ≡ true
 stands_among p [] h = absurd h
-stands_among p (q ∷ qs) (inl e) = ap (λ t. t || is_among qs p) (one_is p q (sym e))
-stands_among p (q ∷ qs) (inr h) = or_later (are_one p q) (stands_among p qs h)
-  where
-    or_later : (s : Bool) → is_among qs p ≡ true → (s || is_among qs p) ≡ true
-    or_later true e = refl
-    or_later false e = e
+stands_among p (q ∷ qs) (inl e) = or_left (are_one p q) (is_among qs p) (one_is p q (sym e))
+stands_among p (q ∷ qs) (inr h) = or_right (are_one p q) (is_among qs p) (stands_among p qs h)
 
 -- the place of what stands in a list
 pub record HasPlace {X : Type 0} (xs : List X) (x d : X) : Type 0 where
@@ -106,19 +87,14 @@ home_free home =
     let y : unsigned_abs (home.y -ℤ home.y) ≡ 0 = omega (arith, ints) in
     omega arith
 
-two : (z : ℤ) → ((z ≡ negsuc 1) ⊎ ((z ≡ pos 0) ⊎ (z ≡ pos 2))) → unsigned_abs z ≤ 2
-two z (inl e) = omega (arith, ints)
-two z (inr (inl e)) = omega (arith, ints)
-two z (inr (inr e)) = omega (arith, ints)
-
 low : unsigned_abs (negsuc 1) ≤ 2
-low = two (negsuc 1) (inl refl)
+low = lit≤ tt
 
 mid : unsigned_abs (pos 0) ≤ 2
-mid = two (pos 0) (inr (inl refl))
+mid = lit≤ tt
 
 high : unsigned_abs (pos 2) ≤ 2
-high = two (pos 2) (inr (inr refl))
+high = lit≤ tt
 
 pub seats_cheap : (board : BoardParts) (end : End) → AllAre (λ p. seat_cost end.at p ≤ 20) (seats_of board end)
 seats_cheap board end = of_free end.is_free
@@ -130,11 +106,14 @@ seats_cheap board end = of_free end.is_free
     of_free false = (home_free end.at, tt)
 
 pub seats_few : (board : BoardParts) (end : End) → length (seats_of board end) ≤ 9
-seats_few board end = of_free end.is_free
-  where
-    of_free : (t : Bool) → length (cond t (filter (is_free_seat board end.at) (map (shifted end.at) shifts)) (end.at ∷ [])) ≤ 9
-    of_free true = filter_few (is_free_seat board end.at) (map (shifted end.at) shifts)
-    of_free false = omega arith
+seats_few board end =
+    cond_both end.is_free (filter (is_free_seat board end.at) (map (shifted end.at) shifts)) (end.at ∷ [])
+    (λ ps. length ps ≤ 9)
+    (λ e. subst (λ n. n ≤ 9) (sym (length-filter (is_free_seat board end.at) (map (shifted end.at) shifts)))
+    (count_by-le-length (is_free_seat board end.at) (map (shifted end.at) shifts))) (λ e. omega arith)
+
+pub kept_few : (board : BoardParts) (end : End) (seats : List GridPoint) → seats ≡ seats_of board end → length seats ≤ 9
+kept_few board end seats are = subst (λ (ps : List GridPoint). length ps ≤ 9) (sym are) (seats_few board end)
 
 -- each seat is even, as the nodes of a board are
 even_shift : (home : GridPoint) (a b : ℤ) → is_even home ≡ true → unsigned_abs a % 2 ≡ 0 → unsigned_abs b % 2 ≡ 0 → is_even (shifted home (a, b)) ≡ true

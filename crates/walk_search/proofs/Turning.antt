@@ -1,73 +1,46 @@
 -- Directions by their numbers, and steps there and back.
-use Rattle.std.proofs.Common.{◌≡◌, refl, ap₂, ℕ, zero, suc, ◌<◌, ◌≤◌, ℤ, pos, ◌+ℤ◌, arith}
+use Rattle.std.proofs.Common.{◌≡◌, refl, ap₂, ℕ, ◌<◌, ◌≤◌, ℤ, pos, ◌+ℤ◌, arith, true, eqb, lit≤}
 use Rattle.std.proofs.lemmas.Int.{ints}
+use Rattle.std.proofs.lemmas.Bool.{agree_below_at, eqb-true}
 use Rattle.octi_grid.specs.declared.dir.Dir.{Dir}
 use Rattle.octi_grid.specs.declared.dir.Dir.TheVariants as dir
 use Rattle.octi_grid.specs.declared.point.GridPoint.{GridPoint}
 use Rattle.octi_grid.specs.Ways.{east_of, north_of, number_of, reverse_of, step_from}
 use Rattle.octi_grid.specs.Costs.{step_cost}
 use Rattle.walk_search.specs.Moves.{direction}
+use Rattle.octi_grid.proofs.CostLemmas.{number_small}
+
+-- what holds of each of the eight directions
+pub of_eight : (P : Dir → Type 0) → P dir.N → P dir.NE → P dir.E → P dir.SE → P dir.S → P dir.SW → P dir.W → P dir.NW
+    → (d : Dir) → P d
+of_eight P n ne e se s sw w nw dir.N = n
+of_eight P n ne e se s sw w nw dir.NE = ne
+of_eight P n ne e se s sw w nw dir.E = e
+of_eight P n ne e se s sw w nw dir.SE = se
+of_eight P n ne e se s sw w nw dir.S = s
+of_eight P n ne e se s sw w nw dir.SW = sw
+of_eight P n ne e se s sw w nw dir.W = w
+of_eight P n ne e se s sw w nw dir.NW = nw
 
 pub direction-number_of : (d : Dir) → direction (number_of d) ≡ d
-direction-number_of dir.N = refl
-direction-number_of dir.NE = refl
-direction-number_of dir.E = refl
-direction-number_of dir.SE = refl
-direction-number_of dir.S = refl
-direction-number_of dir.SW = refl
-direction-number_of dir.W = refl
-direction-number_of dir.NW = refl
+direction-number_of = of_eight (λ d. direction (number_of d) ≡ d) refl refl refl refl refl refl refl refl
 
 pub number_of-direction : (l : ℕ) → l < 8 → number_of (direction l) ≡ l
-number_of-direction zero h = refl
-number_of-direction (suc zero) h = refl
-number_of-direction (suc (suc zero)) h = refl
-number_of-direction (suc (suc (suc zero))) h = refl
-number_of-direction (suc (suc (suc (suc zero)))) h = refl
-number_of-direction (suc (suc (suc (suc (suc zero))))) h = refl
-number_of-direction (suc (suc (suc (suc (suc (suc zero)))))) h = refl
-number_of-direction (suc (suc (suc (suc (suc (suc (suc zero))))))) h = refl
-number_of-direction (suc (suc (suc (suc (suc (suc (suc (suc n)))))))) h = absurd (omega arith)
+number_of-direction l h =
+    eqb-true (number_of (direction l)) l (agree_below_at (λ n. eqb (number_of (direction n)) n) (λ n. true) 8 l refl h)
 
 pub number_below : (d : Dir) → number_of d < 8
-number_below dir.N = omega arith
-number_below dir.NE = omega arith
-number_below dir.E = omega arith
-number_below dir.SE = omega arith
-number_below dir.S = omega arith
-number_below dir.SW = omega arith
-number_below dir.W = omega arith
-number_below dir.NW = omega arith
+number_below d = omega (arith, number_small d)
 
 pub step_cost_from : (d : Dir) → 4 ≤ step_cost d
-step_cost_from dir.N = omega arith
-step_cost_from dir.NE = omega arith
-step_cost_from dir.E = omega arith
-step_cost_from dir.SE = omega arith
-step_cost_from dir.S = omega arith
-step_cost_from dir.SW = omega arith
-step_cost_from dir.W = omega arith
-step_cost_from dir.NW = omega arith
+step_cost_from =
+    of_eight (λ d. 4 ≤ step_cost d) (lit≤ tt) (lit≤ tt) (lit≤ tt) (lit≤ tt) (lit≤ tt) (lit≤ tt) (lit≤ tt) (lit≤ tt)
 
-east_back : (d : Dir) → (east_of d +ℤ east_of (reverse_of d)) ≡ pos 0
-east_back dir.N = refl
-east_back dir.NE = refl
-east_back dir.E = refl
-east_back dir.SE = refl
-east_back dir.S = refl
-east_back dir.SW = refl
-east_back dir.W = refl
-east_back dir.NW = refl
+pub east_back : (d : Dir) → (east_of d +ℤ east_of (reverse_of d)) ≡ pos 0
+east_back = of_eight (λ d. (east_of d +ℤ east_of (reverse_of d)) ≡ pos 0) refl refl refl refl refl refl refl refl
 
-north_back : (d : Dir) → (north_of d +ℤ north_of (reverse_of d)) ≡ pos 0
-north_back dir.N = refl
-north_back dir.NE = refl
-north_back dir.E = refl
-north_back dir.SE = refl
-north_back dir.S = refl
-north_back dir.SW = refl
-north_back dir.W = refl
-north_back dir.NW = refl
+pub north_back : (d : Dir) → (north_of d +ℤ north_of (reverse_of d)) ≡ pos 0
+north_back = of_eight (λ d. (north_of d +ℤ north_of (reverse_of d)) ≡ pos 0) refl refl refl refl refl refl refl refl
 
 there_back : (z a b : ℤ) → (a +ℤ b) ≡ pos 0 → ((z +ℤ b) +ℤ a) ≡ z
 there_back z a b e = omega (arith, ints)

@@ -1,8 +1,9 @@
 -- The turns that are due on the way to a point rise by no more than the turn that is made there.
-use Rattle.std.proofs.Common.{◌≡◌, refl, sym, ◌∙◌, ap, ap₂, subst, ℕ, zero, suc, ◌+◌, ◌-◌, ◌%◌, ◌<◌, ◌≤◌, ◌⊎◌, inl, inr, Bool, true, false, cond, ◌&&◌, min, max, get_or, ℤ, pos, negsuc, ◌+ℤ◌, ◌-ℤ◌, Some, arith}
+use Rattle.std.proofs.Common.{◌≡◌, refl, sym, ◌∙◌, ap, ap₂, subst, ℕ, zero, suc, ◌+◌, ◌-◌, ◌%◌, ◌<◌, ◌≤◌, ◌⊎◌, inl, inr, Bool, true, false, cond, min, max, ℤ, pos, negsuc, ◌+ℤ◌, ◌-ℤ◌, Some, arith}
 use Rattle.std.specs.Prelude.{int_le}
 use Rattle.std.specs.Ordering.{int_eq}
 use Rattle.std.proofs.lemmas.Int.{ints}
+use Rattle.std.proofs.lemmas.List.{get_or-map}
 use Rattle.std.proofs.lemmas.Bool.{and_from, and_parts, cases_eq}
 use Rattle.octi_grid.specs.declared.dir.Dir.{Dir}
 use Rattle.octi_grid.specs.declared.dir.Dir.TheVariants as dir
@@ -10,10 +11,10 @@ use Rattle.octi_grid.specs.declared.point.GridPoint.{GridPoint}
 use Rattle.octi_grid.specs.Ways.{east_of, north_of, number_of, step_from}
 use Rattle.octi_grid.specs.Costs.{clockwise_from, turn_between}
 use Rattle.octi_grid.proofs.CostLemmas.{number_small, turn_none}
-use Rattle.walk_search.specs.Routes.{allows}
+use Rattle.walk_search.specs.Routes.{allows, directions}
 use Rattle.walk_search.specs.Reaching.{is_along, lies_along}
 use Rattle.walk_search.specs.Moves.{Question, direction, least_of_turns, least_turns, turns_due}
-use Rattle.walk_search.proofs.Turning.{direction-number_of}
+use Rattle.walk_search.proofs.Turning.{direction-number_of, of_eight}
 
 -- ---- the turn from one direction over another is no less than the turn straight on
 
@@ -73,12 +74,12 @@ pub least_allowed : (ports l n : ℕ) → allows ports (Some (direction l)) ≡ 
 unfolding least_of_turns
 least_allowed ports l zero e h = absurd (omega arith)
 least_allowed ports l (suc n) e h =
-    none_of (least_of_turns ports (direction l) n) (cond (allows ports (Some (direction n))) (turn_between (direction n) (direction l)) 4) (of_case (cases_eq n l) (λ before. least_allowed ports l n e before))
-  where
-    of_case : (n ≡ l) ⊎ (n ≡ l → ⊥) → (l < n → least_of_turns ports (direction l) n ≡ 0) → (least_of_turns ports (direction l) n ≡ 0) ⊎ (cond (allows ports (Some (direction n))) (turn_between (direction n) (direction l)) 4 ≡ 0)
-    of_case (inl same) rest =
-        inr (ap (λ (m : ℕ). cond (allows ports (Some (direction m))) (turn_between (direction m) (direction l)) 4) same ∙ ap (λ t. cond t (turn_between (direction l) (direction l)) 4) e ∙ turn_none (direction l))
-    of_case (inr apart) rest = inl (rest (omega (arith, apart, h)))
+    none_of (least_of_turns ports (direction l) n) (cond (allows ports (Some (direction n))) (turn_between (direction n) (direction l)) 4)
+    (elim (cases_eq n l) [
+      | inl same ↦ inr (ap (λ (m : ℕ). cond (allows ports (Some (direction m))) (turn_between (direction m) (direction l)) 4) same
+          ∙ ap (λ t. cond t (turn_between (direction l) (direction l)) 4) e ∙ turn_none (direction l))
+      | inr apart ↦ inl (least_allowed ports l n e (omega (arith, apart, h)))
+    ])
 
 pub least_small : (ports : ℕ) (d : Dir) (n : ℕ) → least_of_turns ports d n ≤ 4
 unfolding least_of_turns
@@ -107,17 +108,9 @@ along_next dir.NW x y e =
 
 along_none : (d : Dir) (x y : ℤ) → x ≡ pos 0 → y ≡ pos 0 → is_along d x y ≡ true
 unfolding is_along
-along_none d x y e g = ap₂ (λ (u v : ℤ). is_along d u v) e g ∙ here d
-  where
-    here : (d : Dir) → is_along d (pos 0) (pos 0) ≡ true
-    here dir.N = refl
-    here dir.NE = refl
-    here dir.E = refl
-    here dir.SE = refl
-    here dir.S = refl
-    here dir.SW = refl
-    here dir.W = refl
-    here dir.NW = refl
+along_none d x y e g =
+    ap₂ (λ (u v : ℤ). is_along d u v) e g
+    ∙ of_eight (λ c. is_along c (pos 0) (pos 0) ≡ true) refl refl refl refl refl refl refl refl d
 
 pub along_step : (a p : GridPoint) (d : Dir) → lies_along a p d ≡ true → lies_along a (step_from p d) d ≡ true
 along_step a p d e =
@@ -140,18 +133,9 @@ due q p d = cond (lies_along q.from.at p d) (least_of_turns q.from.ports d 8) (m
 
 pub turns_to : (q : Question) (p : GridPoint) (l : ℕ) → l < 8 → turns_due q p l ≡ due q p (direction l)
 unfolding turns_due least_turns
-turns_to q p l below = ap (λ (k : ℕ). cond (lies_along q.from.at p (direction l)) k (max 1 k)) (at l below)
-  where
-    at : (l : ℕ) → l < 8 → get_or (least_turns q.from.ports) l 0 ≡ least_of_turns q.from.ports (direction l) 8
-    at zero h = refl
-    at (suc zero) h = refl
-    at (suc (suc zero)) h = refl
-    at (suc (suc (suc zero))) h = refl
-    at (suc (suc (suc (suc zero)))) h = refl
-    at (suc (suc (suc (suc (suc zero))))) h = refl
-    at (suc (suc (suc (suc (suc (suc zero)))))) h = refl
-    at (suc (suc (suc (suc (suc (suc (suc zero))))))) h = refl
-    at (suc (suc (suc (suc (suc (suc (suc (suc n)))))))) h = absurd (omega arith)
+turns_to q p l below =
+    ap (λ (k : ℕ). cond (lies_along q.from.at p (direction l)) k (max 1 k))
+    (get_or-map (λ d. least_of_turns q.from.ports d 8) directions l dir.N 0 below)
 
 due_most : (t : Bool) (l : ℕ) → cond t l (max 1 l) ≤ max 1 l
 due_most true l = omega arith
@@ -174,18 +158,15 @@ straight_on q p d false e =
     omega (arith, on, here)
 
 pub due_farther : (q : Question) (p : GridPoint) (a d : Dir) → due q (step_from p d) d ≤ due q p a + turn_between a d
-due_farther q p a d = of_turn (cases_eq (turn_between a d) 0)
-  where
-    of_turn : (turn_between a d ≡ 0) ⊎ (turn_between a d ≡ 0 → ⊥) → due q (step_from p d) d ≤ due q p a + turn_between a d
-    of_turn (inl none) =
-        subst (λ (b : Dir). due q (step_from p d) d ≤ due q p b + turn_between a d) (sym (turn_nowhere a d none))
-        (let on = straight_on q p d (lies_along q.from.at p d) refl in omega (arith, on))
-    of_turn (inr some) =
-        let on : due q (step_from p d) d ≤ max 1 (least_of_turns q.from.ports d 8) = due_most (lies_along q.from.at (step_from p d) d) (least_of_turns q.from.ports d 8) in
-        let farther : least_of_turns q.from.ports d 8 ≤ least_of_turns q.from.ports a 8 + turn_between a d = least_farther q.from.ports a d 8 in
-        let here : least_of_turns q.from.ports a 8 ≤ due q p a = due_least (lies_along q.from.at p a) (least_of_turns q.from.ports a 8) in
-        let turns : 1 ≤ turn_between a d = omega (arith, some) in
-        omega (arith, on, farther, here, turns)
+due_farther q p a d = elim (cases_eq (turn_between a d) 0) [
+  | inl none ↦ subst (λ (b : Dir). due q (step_from p d) d ≤ due q p b + turn_between a d) (sym (turn_nowhere a d none))
+      (let on = straight_on q p d (lies_along q.from.at p d) refl in omega (arith, on))
+  | inr some ↦ (let on : due q (step_from p d) d ≤ max 1 (least_of_turns q.from.ports d 8) = due_most (lies_along q.from.at (step_from p d) d) (least_of_turns q.from.ports d 8) in
+      let farther : least_of_turns q.from.ports d 8 ≤ least_of_turns q.from.ports a 8 + turn_between a d = least_farther q.from.ports a d 8 in
+      let here : least_of_turns q.from.ports a 8 ≤ due q p a = due_least (lies_along q.from.at p a) (least_of_turns q.from.ports a 8) in
+      let turns : 1 ≤ turn_between a d = omega (arith, some) in
+      omega (arith, on, farther, here, turns))
+]
 
 -- by an allowed port none is due from the home of the start, and one at most from elsewhere
 pub due_first : (q : Question) (l : ℕ) → l < 8 → allows q.from.ports (Some (direction l)) ≡ true → due q (step_from q.from.at (direction l)) (direction l) ≡ 0

@@ -1,10 +1,10 @@
 -- The walk along known costs is the least path.
-use Rattle.std.proofs.Common.{◌≡◌, refl, sym, ◌∙◌, ap, ap₂, subst, ℕ, zero, suc, ◌+◌, ◌-◌, ◌<◌, ◌≤◌, ◌⊎◌, inl, inr, true, cond, List, [], ◌∷◌, ◌++◌, map, length, get_or, take, drop, append_assoc, Option, Some, None, arith}
+use Rattle.std.proofs.Common.{◌≡◌, refl, sym, ◌∙◌, ap, ap₂, subst, ℕ, ◌+◌, ◌-◌, ◌<◌, ◌≤◌, inl, inr, true, cond, List, [], ◌∷◌, ◌++◌, map, length, get_or, take, drop, append_assoc, Option, Some, None, arith}
 use Rattle.std.specs.Prelude.{IfNone}
 use Rattle.std.proofs.lemmas.Bool.{and_parts, lt-ltb}
 use Rattle.octi_grid.specs.declared.dir.Dir.{Dir}
 use Rattle.octi_grid.specs.declared.point.GridPoint.{GridPoint}
-use Rattle.std.proofs.lemmas.List.{drop_more}
+use Rattle.std.proofs.lemmas.List.{drop_more, take_all}
 use Rattle.octi_grid.specs.Ways.{after, step_from}
 use Rattle.octi_grid.specs.Walks.{PlainWalk}
 use Rattle.octi_grid.proofs.WayLemmas.{after-append}
@@ -16,9 +16,9 @@ use Rattle.grid_board.specs.Boards.{is_inside}
 use Rattle.walk_search.specs.Spots.{spots_of, spot_of}
 use Rattle.walk_search.specs.Moves.{Question, IsQuestion, IsMove, direction, end_cost, space_of, spot_ahead, starts_of, start_at}
 use Rattle.walk_search.specs.Walked.{AreLabelsOf, AreSteps, IsLeastMove, KeepsCost, StopsAt, walk_of_labels}
-use Rattle.walk_search.proofs.Numbered.{spot_of-none, spot_of-number}
+use Rattle.walk_search.proofs.Numbered.{spot_of-none, some_same}
 use Rattle.walk_search.proofs.SeatFacts.{seats_few}
-use Rattle.walk_search.proofs.Moving.{IsChosen, IsStepped, goal_parts, is_space, move_cases, moved, some_same}
+use Rattle.walk_search.proofs.Moving.{goal_parts, is_space, move_cases, landed, seat_of, step_of}
 
 -- what comes before every spot
 abbrev pub before : Question → ℕ
@@ -74,11 +74,10 @@ walking_ends q h table searched labels at walking stops = of_known (known_at tab
       where
         at_goal : StopsAt q table at → (space_of q).goal at ≡ Some w.1
         at_goal (inl ends) = ends.2 ∙ (sym ends.1 ∙ w.2.known_here)
-        at_goal (inr none) = of_case (ends_or_goes_on (space_of q) (is_space q h) limit (known_at table) found at w.1 w.2.within w.2.known_here)
-          where
-            of_case : ((space_of q).goal at ≡ Some w.1) ⊎ ((l : ℕ) × (s : ℕ) × (c : ℕ) × (r : ℕ) × IsNext (space_of q) (known_at table) at l s c r) → (space_of q).goal at ≡ Some w.1
-            of_case (inl e) = e
-            of_case (inr n) = absurd (none n.0 n.1 (keeps_of q table at n.0 n.1 n.2 n.3 n.4))
+        at_goal (inr none) = elim (ends_or_goes_on (space_of q) (is_space q h) limit (known_at table) found at w.1 w.2.within w.2.known_here) [
+          | inl e ↦ e
+          | inr n ↦ absurd (none n.0 n.1 (keeps_of q table at n.0 n.1 n.2 n.3 n.4))
+        ]
 
 -- what is left to walk falls with each step
 abbrev pub cost_or_none : Option ℕ → ℕ
@@ -102,23 +101,15 @@ goal_before q k e =
 
 pub steps_of_path : (q : Question) → IsQuestion q → (n : ℕ) (s : Spot) (ls : List ℕ) (k : ℕ) → spot_of q.board.bounds n ≡ Some s → PathTo (space_of q) n ls k → AreSteps q s.at ls
 steps_of_path q h n s [] k e p = tt
-steps_of_path q h n s (l ∷ ls) k e p = of_case (move_cases q (spot_of q.board.bounds n) l m.landing p.1 m.goes) (λ x there. steps_of_path q h p.0 x ls p.2 there p.4)
-  where
-    m : IsMove q n l p.0 p.1
-    m = p.3
-
-    there : spot_of q.board.bounds p.0 ≡ Some m.landing
-    there = ap (spot_of q.board.bounds) m.lands ∙ spot_of-number q.board.bounds m.landing (moved q h n l p.1 m.landing m.from_spot m.goes).spot
-
-    of_case : ((spot_of q.board.bounds n ≡ None) × IsChosen q l m.landing p.1) ⊎ ((x : Spot) × (spot_of q.board.bounds n ≡ Some x) × IsStepped q x l m.landing p.1) →
-        ((x : Spot) → spot_of q.board.bounds p.0 ≡ Some x → AreSteps q x.at ls) → AreSteps q s.at (l ∷ ls)
-    of_case (inl c) later = let clash : None ≡ Some s = sym c.0 ∙ e in absurd (let no : ⊥ = cc in no)
-    of_case (inr c) later =
-        let same : c.0 ≡ s = some_same c.0 s (sym c.1 ∙ e) in
-        let free = (and_parts (is_inside q.board c.0.at) _ c.2.is_free).1 in
-        let inside : is_inside q.board (step_from c.0.at (direction l)) ≡ true = (and_parts (is_inside q.board (step_from c.0.at (direction l))) _ free).0 in
-        let rest : AreSteps q (step_from c.0.at (direction l)) ls = subst (λ (x : Spot). AreSteps q x.at ls) c.2.lands (later m.landing there) in
-        subst (λ (x : Spot). AreSteps q x.at (l ∷ ls)) same (c.2.below, inside, rest)
+steps_of_path q h n s (l ∷ ls) k e (to, c, rest, move, path, sum) =
+    let step = step_of q n l to c move s e in
+    let free = (and_parts (is_inside q.board s.at) _ step.is_free).1 in
+    let inside : is_inside q.board (step_from s.at (direction l)) ≡ true =
+    (and_parts (is_inside q.board (step_from s.at (direction l))) _ free).0 in
+    let later : AreSteps q (step_from s.at (direction l)) ls =
+    subst (λ (x : Spot). AreSteps q x.at ls) step.lands
+    (steps_of_path q h to move.landing ls rest (landed q h n l to c move) path) in
+    (step.below, inside, later)
 
 -- what the labels of a path are
 pub record AreLabelsOfWalk (q : Question) (labels : List ℕ) : Type 0 where
@@ -131,33 +122,23 @@ pub record AreLabelsOfWalk (q : Question) (labels : List ℕ) : Type 0 where
 
 pub path_labels : (q : Question) → IsQuestion q → (labels : List ℕ) (k : ℕ) → PathTo (space_of q) (before q) labels k → AreLabelsOfWalk q labels
 path_labels q h [] k p = absurd (goal_before q k p)
-path_labels q h (i ∷ ls) k p = of_case (move_cases q (spot_of q.board.bounds (before q)) i m.landing p.1 m.goes)
-  where
-    m : IsMove q (before q) i p.0 p.1
-    m = p.3
-
-    there : spot_of q.board.bounds p.0 ≡ Some m.landing
-    there = ap (spot_of q.board.bounds) m.lands ∙ spot_of-number q.board.bounds m.landing (moved q h (before q) i p.1 m.landing m.from_spot m.goes).spot
-
-    of_rest : (rest : List ℕ) → PathTo (space_of q) p.0 rest p.2 → IsChosen q i m.landing p.1 → AreLabelsOfWalk q (i ∷ rest)
-    of_rest [] r c =
-        let g = goal_parts q p.0 p.2 r in
-        let same : g.0 ≡ m.landing = some_same g.0 m.landing (sym g.1.spot ∙ there) in
-        let eight : g.0.arrival ≡ 8 = ap (λ (x : Spot). x.arrival) (same ∙ c.lands) in
-        let small : g.0.arrival < 8 = g.1.arrival in
-        absurd (omega arith)
-    of_rest (l ∷ others) r c = record {
+path_labels q h (i ∷ []) k (to, c, rest, move, goal, sum) =
+    let g = goal_parts q to rest goal in
+    let same : g.0 ≡ move.landing = some_same g.0 move.landing (sym g.1.spot ∙ landed q h (before q) i to c move) in
+    let eight : g.0.arrival ≡ 8 = ap (λ (x : Spot). x.arrival) (same ∙ (seat_of q i to c move).lands) in
+    absurd (omega (arith, eight, g.1.arrival))
+path_labels q h (i ∷ l ∷ others) k (to, c, rest, move, path, sum) =
+    let chosen = seat_of q i to c move in
+    record {
       seat = i;
       first = l;
       others = others;
       is = refl;
-      below = c.below;
-      steps = subst (λ (x : Spot). AreSteps q x.at (l ∷ others)) c.lands (steps_of_path q h p.0 m.landing (l ∷ others) p.2 there r);
+      below = chosen.below;
+      steps =
+          subst (λ (x : Spot). AreSteps q x.at (l ∷ others)) chosen.lands
+          (steps_of_path q h to move.landing (l ∷ others) rest (landed q h (before q) i to c move) path);
     }
-
-    of_case : ((spot_of q.board.bounds (before q) ≡ None) × IsChosen q i m.landing p.1) ⊎ ((x : Spot) × (spot_of q.board.bounds (before q) ≡ Some x) × IsStepped q x i m.landing p.1) → AreLabelsOfWalk q (i ∷ ls)
-    of_case (inl c) = of_rest ls p.4 c.1
-    of_case (inr c) = let clash : None ≡ Some c.0 = sym (spot_of-none q.board.bounds) ∙ c.1 in absurd (let no : ⊥ = cc in no)
 
 -- labels of which there are fewer than two are those where there is no path
 pub no_path_where_short : (q : Question) → IsQuestion q → (table : List (Option ℕ)) (labels : List ℕ) → IsSearched (space_of q) (before q) table → AreLabelsOf q labels (known_at table (before q)) → length labels < 2 →
@@ -184,31 +165,23 @@ goal_is q n s below e = ap (λ t. cond t (end_cost q (spot_of q.board.bounds n))
 
 -- no label of a move is as great as 9
 pub label_small : (q : Question) (at label to c : ℕ) → IsMove q at label to c → label < 9
-label_small q at label to c m = of_case (move_cases q (spot_of q.board.bounds at) label m.landing c m.goes)
-  where
-    of_case : ((spot_of q.board.bounds at ≡ None) × IsChosen q label m.landing c) ⊎ ((x : Spot) × (spot_of q.board.bounds at ≡ Some x) × IsStepped q x label m.landing c) → label < 9
-    of_case (inl k) =
-        let few : length (starts_of q) ≤ 9 = seats_few q.board q.from in
-        let below : label < length (starts_of q) = k.1.below in
-        omega arith
-    of_case (inr k) = let below : label < 8 = k.2.below in omega arith
+label_small q at label to c m =
+    let few : length (starts_of q) ≤ 9 = seats_few q.board q.from in
+    elim (move_cases q (spot_of q.board.bounds at) label m.landing c m.goes) [
+      | inl k ↦ omega (arith, few, k.1.below)
+      | inr k ↦ omega (arith, k.2.below)
+    ]
 
 pub if_none : {X : Type 0} (o : Option X) (P : Type 0) → P → IfNone o P
 if_none None P p = p
 if_none (Some x) P p = tt
 
 -- the labels of a walk, one by one
-take_two : (others : List ℕ) (n : ℕ) → n ≡ length others → take n others ≡ others
-take_two [] zero e = refl
-take_two [] (suc n) e = refl
-take_two (l ∷ ls) zero e = absurd (omega arith)
-take_two (l ∷ ls) (suc n) e = ap (λ xs. l ∷ xs) (take_two ls n (omega arith))
-
 pub others_of : (labels : List ℕ) (seat first : ℕ) (others : List ℕ) → labels ≡ seat ∷ first ∷ others → take (length labels - 2) (drop 2 labels) ≡ others
 others_of labels seat first others e =
     let many : length labels ≡ length (seat ∷ first ∷ others) = ap length e in
-    let fewer : length labels - 2 ≡ length others = omega arith in
-    ap (λ (ls : List ℕ). take (length labels - 2) (drop 2 ls)) e ∙ take_two others (length labels - 2) fewer
+    ap (λ (ls : List ℕ). take (length labels - 2) (drop 2 ls)) e ∙ take_all (length labels - 2) others
+    (omega (arith, many))
 
 pub after_last : (p : GridPoint) (ds : List Dir) (d : Dir) → after p (ds ++ d ∷ []) ≡ step_from (after p ds) d
 after_last p ds d = after-append p ds (d ∷ [])

@@ -1,8 +1,7 @@
 //! What is asked of a search, and the steps of walks from spot to spot.
 
-ghost use Rattle.std.specs.Prelude.{◌≡◌, ℕ, ◌+◌, ◌*◌, ◌^◌, ◌<◌, ◌≤◌, ◌&&◌, not, IfOk, IfSome, Some, true, if◌then◌else◌, length, option_map, slice_index_or};
+ghost use Rattle.std.specs.Prelude.{◌≡◌, ℕ, ◌+◌, ◌*◌, ◌^◌, ◌<◌, ◌≤◌, ◌&&◌, not, IfOk, IfSome, Some, true, length};
 ghost use Rattle.octi_grid.specs.Ways.{CanStep, doubled, reverse_of, step_from};
-ghost use Rattle.octi_grid.specs.Costs.{turn_between};
 ghost use Rattle.walk_search.specs.Routes.{allows};
 ghost use Rattle.walk_search.specs.Seats.{seat_cost};
 ghost use Rattle.grid_board.specs.Boards.{is_inside, parts_of};
@@ -10,11 +9,11 @@ ghost use Rattle.walk_search.specs.Spots.{IsSpot, number_of_place, number_of_spo
 ghost use Rattle.std.specs.List.{list_any};
 ghost use Rattle.octi_grid.specs.Legal.{is_among};
 ghost use Rattle.walk_search.specs.Enclosed.{leads_on, leaves_start};
-ghost use Rattle.walk_search.specs.Moves.{IsAsked, IsQuestion, ahead_at, chosen_seat, direction, end_at, end_cost, ends_of, group_of, is_end, is_open, is_other_end, is_own_start, is_passable, is_shared_start, is_start, least_of_turns, least_turns, may_end, may_leave, seat_ahead, start_at, starts_of, step_ahead, stepped, turn_from, turns_due};
+ghost use Rattle.walk_search.specs.Moves.{IsAsked, IsQuestion, chosen_seat, direction, end_at, end_cost, ends_of, group_of, is_end, is_open, is_other_end, is_own_start, is_passable, is_shared_start, is_start, may_end, may_leave, start_at, starts_of, stepped, turn_from};
 
+use crate::ahead::least_turns;
 use crate::directions::{allows, direction};
 use crate::ends::End;
-use crate::reaching::{lies_along, reach};
 use crate::seats::{are_one, doubled_within, have_common, is_among, is_clear, seat_cost, seats_of};
 use crate::spots::{Spot, number_of_place, number_of_spot, spot_of, spots_of};
 use grid_board::Board;
@@ -29,11 +28,11 @@ pub(crate) const START: u8 = 8;
 #[derive(Drop)]
 pub(crate) struct Asked<'a> {
     board: &'a Board,
-    from: End,
+    pub(crate) from: End,
     to: End,
     starts: Vec<GridPoint>,
     ends: Vec<GridPoint>,
-    turns: [u8; 8],
+    pub(crate) turns: [u8; 8],
     ghost asked: { IsAsked (record { board = parts_of board.now; from = from; to = to }) starts.items ends.items turns },
 }
 
@@ -150,10 +149,7 @@ impl<'a> Asked<'a> {
     fn is_own_start(&self, p: GridPoint) -> bool
         ensures { result ≡ is_own_start (question self.now) p }
     {
-        if !is_among(&self.starts, p) {
-            return false;
-        }
-        !is_among(&self.ends, p)
+        is_among(&self.starts, p) && !is_among(&self.ends, p)
     }
 
     /// Whether walks of another group may start at a point: it is the group's seat, and one of the end too.
@@ -161,13 +157,7 @@ impl<'a> Asked<'a> {
         requires { 0 < group }
         ensures { result ≡ is_shared_start (question self.now) p group }
     {
-        if self.start_count() < group {
-            return false;
-        }
-        if !are_one(self.start(group - 1), p) {
-            return false;
-        }
-        is_among(&self.ends, p)
+        group <= self.start_count() && are_one(self.start(group - 1), p) && is_among(&self.ends, p)
     }
 
     /// Whether the walks of a group may start at a point.
@@ -191,23 +181,14 @@ impl<'a> Asked<'a> {
             return false;
         }
         let start = self.start(group - 1);
-        if !is_among(&self.ends, start) {
-            return false;
-        }
-        !are_one(start, p)
+        is_among(&self.ends, start) && !are_one(start, p)
     }
 
     /// Whether there are walks of a group, and they may end at a point.
     pub(crate) fn is_end(&self, p: GridPoint, group: u8) -> bool
         ensures { result ≡ is_end (question self.now) p group }
     {
-        if !is_among(&self.ends, p) {
-            return false;
-        }
-        if group == 0 {
-            return true;
-        }
-        self.is_other_end(p, group)
+        is_among(&self.ends, p) && (group == 0 || self.is_other_end(p, group))
     }
 
     /// Whether a walk that stands at a spot may end there.
@@ -215,10 +196,7 @@ impl<'a> Asked<'a> {
         requires { spot.arrival < 8 }
         ensures { result ≡ may_end (question self.now) spot }
     {
-        if !self.is_end(spot.at, spot.group) {
-            return false;
-        }
-        self.allows_end(spot.arrival)
+        self.is_end(spot.at, spot.group) && self.allows_end(spot.arrival)
     }
 
     /// Whether a walk may come to its end in a direction.
@@ -257,10 +235,7 @@ impl<'a> Asked<'a> {
         requires { is_inside (question self.now).board p ≡ true }
         ensures { result ≡ is_passable (question self.now).board p }
     {
-        if self.board.is_node(p) {
-            return false;
-        }
-        is_clear(self.board, p)
+        !self.board.is_node(p) && is_clear(self.board, p)
     }
 
     /// Whether a step from a point stays on the board, and no walk has its middle.
@@ -268,10 +243,7 @@ impl<'a> Asked<'a> {
         requires { CanStep p }
         ensures { result ≡ is_open (question self.now).board p dir }
     {
-        if !self.board.bounds().contains(p) {
-            return false;
-        }
-        self.is_open_from(p, dir)
+        self.board.bounds().contains(p) && self.is_open_from(p, dir)
     }
 
     /// The same from a point of the board.
@@ -299,10 +271,7 @@ impl<'a> Asked<'a> {
     pub(crate) fn allows_start(&self, p: GridPoint, group: u8, dir: Dir) -> bool
         ensures { result ≡ (is_start (question self.now) p group && allows (question self.now).from.ports (Some dir)) }
     {
-        if !self.is_start(p, group) {
-            return false;
-        }
-        allows(self.from.ports, dir)
+        self.is_start(p, group) && allows(self.from.ports, dir)
     }
 
     /// The seats of the start.
@@ -324,10 +293,7 @@ impl<'a> Asked<'a> {
     fn leaves_start(&self, p: GridPoint, dir: Dir) -> bool
         ensures { result ≡ leaves_start (question self.now) p dir }
     {
-        if !is_among(&self.starts, p) {
-            return false;
-        }
-        allows(self.from.ports, dir)
+        is_among(&self.starts, p) && allows(self.from.ports, dir)
     }
 
     /// Whether, however a walk came to a point, a step may lead on from there.
@@ -361,10 +327,7 @@ impl<'a> Asked<'a> {
         requires { is_inside (question self.now).board spot.at ≡ true }
         ensures { result ≡ (may_leave (question self.now) spot dir && is_open (question self.now).board spot.at dir) }
     {
-        if !self.may_leave(spot, dir) {
-            return false;
-        }
-        self.is_open(spot.at, dir)
+        self.may_leave(spot, dir) && self.is_open(spot.at, dir)
     }
 
     /// What a seat of the start costs.
@@ -415,108 +378,6 @@ impl<'a> Asked<'a> {
             u64::from(step_cost(dir)) + turn_from(spot.arrival, dir),
         ))
     }
-
-    /// What it costs at least to come to a point by an arrival.
-    #[tactic(auto, unfolding(crate::specs::Moves::ahead_at))]
-    pub(crate) fn ahead_at(&self, p: GridPoint, arrival: u8) -> u64
-        requires inside { is_inside (question self.now).board p ≡ true }
-        requires arrival { arrival < 9 }
-        ensures value { result ≡ ahead_at (question self.now) p arrival }
-        ensures within { result < 2 ^ 40 }
-    {
-        if arrival == START {
-            return self.seat_ahead(p);
-        }
-        self.step_ahead(p, arrival)
-    }
-
-    /// What it costs at least to choose a point as the seat that a walk starts at; one less at its home.
-    #[tactic(auto, unfolding(crate::specs::Moves::seat_ahead))]
-    fn seat_ahead(&self, p: GridPoint) -> u64
-        ensures value { result ≡ seat_ahead (question self.now) p }
-        ensures within { result < 2 ^ 40 }
-    {
-        let far = reach(self.from.at, p);
-        if are_one(self.from.at, p) {
-            return far;
-        }
-        far + 1
-    }
-
-    /// What it costs at least to come to a point by the direction of a number.
-    #[tactic(auto, unfolding(crate::specs::Moves::step_ahead))]
-    fn step_ahead(&self, p: GridPoint, arrival: u8) -> u64
-        requires inside { is_inside (question self.now).board p ≡ true }
-        requires arrival { arrival < 8 }
-        ensures value { result ≡ step_ahead (question self.now) p arrival }
-        ensures within { result < 2 ^ 40 }
-    {
-        let dir = direction(arrival);
-        let before = p.step(dir.reverse());
-        let step = u64::from(step_cost(dir));
-        reach(self.from.at, before) + (step + self.turns_due(p, arrival))
-    }
-
-    /// The turns that a walk makes at least that comes to a point by the direction of a number.
-    #[tactic(auto, unfolding(crate::specs::Moves::turns_due))]
-    fn turns_due(&self, p: GridPoint, arrival: u8) -> u64
-        requires arrival { arrival < 8 }
-        ensures value { result ≡ turns_due (question self.now) p arrival }
-        ensures within { result < 256 }
-    {
-        let least = u64::from(self.least_turn_to(arrival));
-        if lies_along(self.from.at, p, direction(arrival)) {
-            return least;
-        }
-        least.max(1)
-    }
-
-    /// The least turn from an allowed port to the direction of a number.
-    fn least_turn_to(&self, arrival: u8) -> u8
-        requires { arrival < 8 }
-        ensures { result ≡ slice_index_or (least_turns (question self.now).from.ports) arrival 0 }
-    {
-        self.turns[usize::from(arrival)]
-    }
-}
-
-/// The least turn from an allowed port to each direction, 4 where no port is allowed.
-#[tactic(auto, unfolding(crate::specs::Moves::least_turns))]
-fn least_turns(ports: u8) -> [u8; 8]
-    ensures { result ≡ least_turns ports }
-{
-    [
-        least_turn(ports, Dir::N),
-        least_turn(ports, Dir::NE),
-        least_turn(ports, Dir::E),
-        least_turn(ports, Dir::SE),
-        least_turn(ports, Dir::S),
-        least_turn(ports, Dir::SW),
-        least_turn(ports, Dir::W),
-        least_turn(ports, Dir::NW),
-    ]
-}
-
-/// The least turn from an allowed port to a direction, 4 where no port is allowed.
-#[tactic(auto, unfolding(crate::specs::Moves::least_of_turns))]
-fn least_turn(ports: u8, to: Dir) -> u8
-    ensures { result ≡ least_of_turns ports to 8 }
-{
-    let mut least = 4u8;
-    for number in 0..START {
-        least = least.min(turn_of_port(ports, direction(number), to));
-    }
-    least
-}
-
-/// The turn from a port to a direction, 4 where the port is not allowed.
-fn turn_of_port(ports: u8, port: Dir, to: Dir) -> u8
-    ensures { result ≡ (if allows ports (Some port) then turn_between port to else 4) }
-{
-    if !allows(ports, port) {
-        return 4;
-    }
-    turn_cost(port, to) as u8
 }
 
 /// What the turn from a direction of arrival costs; at a start there is none.

@@ -4,6 +4,7 @@
 //! walk no dearer than the route.
 #![tactic(auto)]
 
+mod ahead;
 mod asked;
 mod directions;
 mod enclosed;

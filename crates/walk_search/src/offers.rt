@@ -227,10 +227,7 @@ fn starts_at(asked: &Asked, spot: Spot, i: u8) -> bool
     requires { i < length (starts_of (question asked.now)) }
     ensures { result ≡ (are_one (start_at (question asked.now) i) spot.at && group_of (question asked.now) i == spot.group) }
 {
-    if !are_one(asked.start(i), spot.at) {
-        return false;
-    }
-    asked.group_of(i) == spot.group
+    are_one(asked.start(i), spot.at) && asked.group_of(i) == spot.group
 }
 
 /// Offers to the spots at a point what it costs to go on by a step, if a step may be made there.

@@ -115,8 +115,5 @@ fn ahead_of(asked: &Asked, at: u32) -> u64
 pub(crate) fn is_sum(whole: u64, first: u64, second: u64) -> bool
     ensures { IsTrue result ↔ (whole ≡ first + second) }
 {
-    if whole < first {
-        return false;
-    }
-    whole - first == second
+    first <= whole && whole - first == second
 }

@@ -74,24 +74,7 @@ fn add_seat(
 fn is_free_seat(board: &Board, home: GridPoint, p: GridPoint) -> bool
     ensures { result ≡ is_free_seat (parts_of board.now) home p }
 {
-    if !board.bounds().contains(p) {
-        return false;
-    }
-    if !may_stand(board, home, p) {
-        return false;
-    }
-    is_clear(board, p)
-}
-
-/// Whether a point of the board is the home or no node's point.
-fn may_stand(board: &Board, home: GridPoint, p: GridPoint) -> bool
-    requires { is_inside (parts_of board.now) p ≡ true }
-    ensures { result ≡ (are_one home p || not ((parts_of board.now).is_node p)) }
-{
-    if are_one(home, p) {
-        return true;
-    }
-    !board.is_node(p)
+    board.bounds().contains(p) && (are_one(home, p) || !board.is_node(p)) && is_clear(board, p)
 }
 
 /// Whether no walk has a point of the board.
@@ -142,10 +125,7 @@ pub(crate) fn have_common(points: &[GridPoint], others: &[GridPoint]) -> bool
 pub(crate) fn are_one(p: GridPoint, q: GridPoint) -> bool
     ensures { result ≡ are_one p q }
 {
-    if p.x != q.x {
-        return false;
-    }
-    p.y == q.y
+    p.x == q.x && p.y == q.y
 }
 
 /// What a seat costs: 5 times the sum of its differences from the home.

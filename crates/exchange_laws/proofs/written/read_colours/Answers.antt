@@ -1,4 +1,4 @@
-use Rattle.std.proofs.Common.{◌≡◌, subst, length, take, arith, All}
+use Rattle.std.proofs.Common.{◌≡◌, subst, length, arith, All}
 use Rattle.std.proofs.lemmas.List.{take_all}
 use Rattle.std.proofs.lemmas.List.Elements.{All-more}
 use Rattle.transit_feed.specs.declared.line.Line.{Line}

@@ -1,5 +1,6 @@
 use Rattle.std.proofs.Common.{◌≡◌, sym, ◌∙◌, ap, subst, ℕ, ◌<◌, List, length, arith}
 use Rattle.std.proofs.lemmas.List.{get_or_read}
+use Rattle.std.proofs.lemmas.Bool.{not-true}
 use Rattle.octi_grid.specs.declared.point.GridPoint.{GridPoint}
 use Rattle.grid_board.specs.Boards.{is_inside}
 use Rattle.std.specs.List.{list_any}
@@ -8,7 +9,7 @@ use Rattle.walk_search.specs.Asking.{question}
 use Rattle.walk_search.specs.Moves.{ends_of}
 use Rattle.walk_search.specs.Enclosed.{point_at, AreReached, HasSteps}
 use Rattle.walk_search.proofs.Moving.{start_inside}
-use Rattle.walk_search.proofs.Enclosing.{length_longer, not_true, reached_first, reached_more, shut_in}
+use Rattle.walk_search.proofs.Enclosing.{length_longer, reached_first, reached_more, shut_in}
 use Rattle.walk_search.proofs.enclosed.is_shut_in.Goals as goal
 
 pub loop-followed-init : goal.loop-followed-init
@@ -21,7 +22,7 @@ returns-then-followed-len c shut =
     let q = question c.args.asked.now in
     let all : c.loop-followed.followed ≡ length c.loop-followed.points.items = omega (arith, c.len.ensures) in
     shut_in q c.in_ok-points.ensures.asked c.loop-followed.points.items (subst (λ (n : ℕ). AreReached q c.loop-followed.points.items n) all c.loop-followed.invariant.reached)
-    (sym (ap (λ (points : List GridPoint). list_any (is_among points) (ends_of q)) c.deref.ensures.value) ∙ sym c.has_end_among.ensures ∙ not_true c.has_end_among.result shut)
+    (sym (ap (λ (points : List GridPoint). list_any (is_among points) (ends_of q)) c.deref.ensures.value) ∙ sym c.has_end_among.ensures ∙ not-true c.has_end_among.result shut)
 
 pub add_steps-requires-clause-p : goal.add_steps-requires-clause-p
 add_steps-requires-clause-p c =

@@ -1,17 +1,14 @@
-use Rattle.std.proofs.Common.{◌≡◌, ap, ◌≤◌, length, arith}
+use Rattle.std.proofs.Common.{arith}
 use Rattle.grid_board.specs.Boards.{parts_of}
-use Rattle.walk_search.specs.Seats.{seats_of}
-use Rattle.walk_search.proofs.SeatFacts.{seats_few}
+use Rattle.walk_search.proofs.SeatFacts.{kept_few}
 use Rattle.walk_search.proofs.asked.Asked.start_count.Goals as goal
 
 pub overflow_cast-result : goal.overflow_cast-result
 overflow_cast-result c =
-    let few : length (seats_of (parts_of c.args.self.now.board.now) c.args.self.now.from) ≤ 9 = seats_few (parts_of c.args.self.now.board.now) c.args.self.now.from in
-    let same : length c.args.self.now.starts.items ≡ length (seats_of (parts_of c.args.self.now.board.now) c.args.self.now.from) = ap length c.args.self.now.asked.starts_are in
-    omega (arith, c.len.ensures)
+    let a = c.args.self.now in
+    omega (arith, c.len.ensures, kept_few (parts_of a.board.now) a.from a.starts.items a.asked.starts_are)
 
 pub returns-clause-within : goal.returns-clause-within
 returns-clause-within c =
-    let few : length (seats_of (parts_of c.args.self.now.board.now) c.args.self.now.from) ≤ 9 = seats_few (parts_of c.args.self.now.board.now) c.args.self.now.from in
-    let same : length c.args.self.now.starts.items ≡ length (seats_of (parts_of c.args.self.now.board.now) c.args.self.now.from) = ap length c.args.self.now.asked.starts_are in
-    omega (arith, c.len.ensures)
+    let a = c.args.self.now in
+    omega (arith, c.len.ensures, kept_few (parts_of a.board.now) a.from a.starts.items a.asked.starts_are)

@@ -3,7 +3,7 @@ use Rattle.octi_grid.specs.declared.dir.Dir.{Dir}
 use Rattle.octi_grid.specs.Costs.{turn_between}
 use Rattle.walk_search.specs.Routes.{allows}
 use Rattle.walk_search.proofs.TurnsDue.{least_more}
-use Rattle.walk_search.proofs.asked.least_turn.Goals as goal
+use Rattle.walk_search.proofs.ahead.least_turn.Goals as goal
 
 pub loop-number-preserved : goal.loop-number-preserved
 loop-number-preserved c = record {
