@@ -35,7 +35,7 @@ use Rattle.drawing_search.specs.Trying.{walks_of, IsWhole}
 use Rattle.drawing_search.proofs.OnWalks.{same_weight, sketch_by_walks, IsGood}
 use Rattle.drawing_search.proofs.RunReads.{near_more}
 use Rattle.drawing_search.proofs.Searches.{IsBetweenPasses}
-use Rattle.drawing_search.proofs.Spans.{first_within, inside_near, past_bounds}
+use Rattle.drawing_weights.proofs.Spans.{first_within, inside_near, past_bounds}
 
 -- an attempt that changes nothing
 abbrev no_attempt : Attempt

@@ -29,7 +29,7 @@ use Rattle.run_laying.proofs.FreeRoutes.{free_of_route}
 use Rattle.run_laying.proofs.Piecewise.{IsFreeWalk}
 use Rattle.drawing_search.specs.Tracks.{piece_along, IsTrack}
 use Rattle.drawing_search.proofs.Laid.{within_some, IsLayingFrom}
-use Rattle.drawing_search.proofs.Nearby.{short_inside}
+use Rattle.drawing_weights.proofs.ShortWalks.{short_inside}
 
 pub clear_of : (k : Sketch) (c : Chain) → IsFreeFor k c → IsClearFor k c
 clear_of k c free = record {

@@ -1,7 +1,3 @@
--- The board on which attempts are made, and points of walks
-mod BoundParts
-mod Trails
-pub mod Spans
 -- how the board of a sketch changes, and what it is when something is taken off
 mod BoardsOf
 mod TakenOff

@@ -20,6 +20,7 @@ use Rattle.grid_board.specs.Boards.{contains}
 use Rattle.segment_router.specs.Routes.{has_doubled}
 use Rattle.segment_router.proofs.ClearNodes.{undoubled}
 use Rattle.segment_router.proofs.SettledLemmas.{nowhere}
+use Rattle.drawing_weights.proofs.ShortWalks.{doubled_there}
 use Rattle.drawing_weights.specs.Scales.{apart_weight_by, Scale}
 use Rattle.run_laying.specs.Attempts.{attempted_on, comes_over_point, has_node, is_inner, may_move, may_move_to, stands_at, without_runs, Attempt}
 use Rattle.run_laying.specs.Drawings.{IsOnBoard}
@@ -45,18 +46,11 @@ use Rattle.drawing_search.proofs.PutBack.{can_stand_each, flag_back, flag_still,
 use Rattle.drawing_search.proofs.Takable.{liftable_each, walk_below}
 use Rattle.drawing_search.proofs.TakenBack.{lift_bounds, lift_flags, lift_points, lift_walks, low_each, still_standing, IsOneOf}
 
--- a point that a walk comes over is one of its doubled points
-redoubled : (q p : GridPoint) (ds : List Dir) → In q (points_from p ds) → In (doubled q) (doubled_from p ds)
-redoubled q p [] (inl e) = inl (ap doubled e)
-redoubled q p [] (inr m) = absurd m
-redoubled q p (d ∷ ds) (inl e) = inl (ap doubled e)
-redoubled q p (d ∷ ds) (inr m) = inr (inr (redoubled q (step_from p d) ds m))
-
 over_or_not : (p : GridPoint) (o : Option PlainWalk) → has_doubled (doubled p) o ≡ comes_over_point p o
 over_or_not p None = refl
 over_or_not p (Some w) =
     same_test (is_among (doubled_of w) (doubled p)) (is_among (points_of w) p) (λ e. among_from (points_of w) p (undoubled p w.start w.steps (among_at (doubled_of w) (doubled p) e)))
-    (λ e. among_from (doubled_of w) (doubled p) (redoubled p w.start w.steps (among_at (points_of w) p e)))
+    (λ e. among_from (doubled_of w) (doubled p) (doubled_there p w.start w.steps (among_at (points_of w) p e)))
 
 over_any : (p : GridPoint) (os : List (Option PlainWalk)) → list_any (has_doubled (doubled p)) os ≡ list_any (comes_over_point p) os
 over_any p [] = refl

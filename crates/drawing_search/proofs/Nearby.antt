@@ -24,6 +24,7 @@ use Rattle.grid_board.specs.Points.{is_near}
 use Rattle.grid_board.proofs.Within.{few_cells, inside_facts, point_below, point_of-cell}
 use Rattle.segment_router.proofs.Places.{in_at}
 use Rattle.drawing_weights.specs.Drawn.{IsShort}
+use Rattle.drawing_weights.proofs.ShortWalks.{short_inside}
 use Rattle.run_laying.specs.Attempts.{inner_nodes}
 use Rattle.run_laying.specs.Laying.{Sketch}
 use Rattle.run_laying.specs.Sketches.{is_standing, lifted, point_of_node, walk_in, IsLegalSketch}
@@ -36,55 +37,6 @@ on_board_near b h p e =
     let i = inside_facts b p e in
     and_from (nat_le (unsigned_abs p.x) 2000) (nat_le (unsigned_abs p.y) 2000)
     (le-leb (unsigned_abs p.x) 2000 (omega (arith, ints, h.left.low, h.right.high, i.west, i.east))) (le-leb (unsigned_abs p.y) 2000 (omega (arith, ints, h.bottom.low, h.top.high, i.south, i.north)))
-
--- ---- a way that comes to no point again
-
-doubled_there : (q p : GridPoint) (ds : List Dir) → In q (points_from p ds) → In (doubled q) (doubled_from p ds)
-doubled_there q p [] (inl e) = inl (ap doubled e)
-doubled_there q p [] (inr m) = absurd m
-doubled_there q p (d ∷ ds) (inl e) = inl (ap doubled e)
-doubled_there q p (d ∷ ds) (inr m) = inr (inr (doubled_there q (step_from p d) ds m))
-
-distinct_points : (p : GridPoint) (ds : List Dir) → are_distinct (doubled_from p ds) ≡ true → are_distinct (points_from p ds) ≡ true
-distinct_points p [] e = refl
-distinct_points p (d ∷ ds) e =
-    let rest = step_from (doubled p) d ∷ doubled_from (step_from p d) ds in
-    distinct_from p (points_from (step_from p d) ds) (λ m. distinct_not_later (doubled p) rest e (inr (doubled_there p (step_from p d) ds m)))
-    (distinct_points (step_from p d) ds (distinct_rest (step_from (doubled p) d) (doubled_from (step_from p d) ds) (distinct_rest (doubled p) rest e)))
-
--- points of a board have numbers of their own
-module _ (b : Bounds) where
-  one_number : (p q : GridPoint) → contains b p ≡ true → contains b q ≡ true → cell_of b p ≡ cell_of b q → p ≡ q
-  one_number p q h k e = sym (point_of-cell b p (inside_facts b p h)) ∙ ap (point_of b) e ∙ point_of-cell b q (inside_facts b q k)
-
-  number_apart : (p : GridPoint) (ps : List GridPoint) → contains b p ≡ true → list_all (contains b) ps ≡ true → (In p ps → ⊥) → AllByRecursion (λ n. eqb (cell_of b p) n ≡ false) (map (cell_of b) ps)
-  number_apart p [] h a f = tt
-  number_apart p (q ∷ ps) h a f =
-      let parts = and_parts (contains b q) (list_all (contains b) ps) a in
-      (ne_eqb (cell_of b p) (cell_of b q) (λ e. f (inl (one_number p q h parts.0 e))), number_apart p ps h parts.1 (λ m. f (inr m)))
-
-  numbers_distinct : (ps : List GridPoint) → list_all (contains b) ps ≡ true → are_distinct ps ≡ true → IsDistinct eqb (map (cell_of b) ps)
-  unfolding IsDistinct
-  numbers_distinct [] a e = tt
-  numbers_distinct (p ∷ ps) a e =
-      let parts = and_parts (contains b p) (list_all (contains b) ps) a in
-      IsDistinct-cons eqb (cell_of b p) (map (cell_of b) ps) (number_apart p ps parts.0 parts.1 (distinct_not_later p ps e)) (numbers_distinct ps parts.1 (distinct_rest p ps e))
-
-  numbers_below : (ps : List GridPoint) (n : ℕ) → list_all (contains b) ps ≡ true → list_any (eqb n) (map (cell_of b) ps) ≡ true → n < cells_of b
-  numbers_below [] n a e = absurd (true≢false (sym e))
-  numbers_below (p ∷ ps) n a e =
-      let parts = and_parts (contains b p) (list_all (contains b) ps) a in
-      by_place (or_cases (eqb n (cell_of b p)) (list_any (eqb n) (map (cell_of b) ps)) e) (point_below b p (inside_facts b p parts.0)) (numbers_below ps n parts.1)
-    where
-      by_place : (eqb n (cell_of b p) ≡ true) ⊎ (list_any (eqb n) (map (cell_of b) ps) ≡ true) → cell_of b p < cells_of b → (list_any (eqb n) (map (cell_of b) ps) ≡ true → n < cells_of b) → n < cells_of b
-      by_place (inl h) here rest = omega (arith, eqb-true n (cell_of b p) h, here)
-      by_place (inr h) here rest = rest h
-
-  pub short_inside : AreBounds b → (w : PlainWalk) → are_distinct (doubled_of w) ≡ true → list_all (contains b) (points_of w) ≡ true → IsShort w
-  short_inside h w once within =
-      let ps = points_of w in
-      let few = length-le_from_distinct_below (map (cell_of b) ps) (cells_of b) (numbers_distinct ps within (distinct_points w.start w.steps once)) (λ n. numbers_below ps n within) in
-      omega (arith, few, length-map ps (cell_of b), few_cells b h, length-points w.start w.steps)
 
 -- ---- legal sketches
 

@@ -9,7 +9,7 @@ use map_base::NoMemory;
 use octi_grid::{GridPoint, Run, Walk, run_end};
 
 /// Lists the grid points of a walk.
-pub(crate) fn push_points(points: &mut Vec<GridPoint>, walk: &Walk) -> Result<(), NoMemory>
+pub fn push_points(points: &mut Vec<GridPoint>, walk: &Walk) -> Result<(), NoMemory>
     ensures { OnOk result (points.new.items ≡ points.old.items ++ points_of walk.now) }
 {
     let runs = walk.runs();

@@ -2,9 +2,9 @@ use Rattle.std.proofs.Common.{◌∙◌, Option, Some, ap, sym, arith}
 use Rattle.std.specs.Int.{int_min, int_max}
 use Rattle.std.proofs.lemmas.Int.{clamps, ints}
 use Rattle.grid_board.specs.declared.bounds.Bounds.{Bounds}
-use Rattle.octi_moves.specs.Moves.{bounds_with}
-use Rattle.octi_moves.proofs.BoundParts.{same_bounds}
-use Rattle.octi_moves.proofs.bounds.with_point.Goals as goal
+use Rattle.drawing_weights.specs.Reach.{bounds_with}
+use Rattle.drawing_weights.proofs.BoundParts.{same_bounds}
+use Rattle.drawing_weights.proofs.bounds.with_point.Goals as goal
 
 pub returns-in-Some : goal.returns-in-Some
 returns-in-Some c =

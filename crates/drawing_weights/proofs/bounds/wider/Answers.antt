@@ -2,8 +2,8 @@ use mir.Syntax.{w32}
 use mir.Val.{of_z, to_z}
 use Rattle.std.proofs.Common.{◌≡◌, ◌∙◌, ◌≤◌, ◌+ℤ◌, ◌-ℤ◌, ℕ, ℤ, pos, unsigned_abs, ap, arith}
 use Rattle.std.proofs.lemmas.Int.{ints}
-use Rattle.drawing_search.proofs.BoundParts.{same_bounds}
-use Rattle.drawing_search.proofs.bounds.wider.Goals as goal
+use Rattle.drawing_weights.proofs.BoundParts.{same_bounds}
+use Rattle.drawing_weights.proofs.bounds.wider.Goals as goal
 
 read : (z : ℤ) → unsigned_abs z ≤ 1920 → to_z w32 (of_z w32 z) ≡ z
 read z h = omega (arith, ints)

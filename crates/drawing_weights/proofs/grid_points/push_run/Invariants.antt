@@ -1,7 +1,7 @@
 use Rattle.std.proofs.Common.{◌≡◌, ◌+◌, ◌++◌, ◌≤◌, replicate, unsigned_abs}
 use Rattle.octi_grid.specs.Taking.{trail}
 use Rattle.octi_grid.specs.Ways.{after}
-use Rattle.octi_moves.proofs.points.push_run.Given as goal
+use Rattle.drawing_weights.proofs.grid_points.push_run.Given as goal
 
 -- the points so far
 abbrev pub invariant-loop : goal.invariant-loop

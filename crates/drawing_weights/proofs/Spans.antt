@@ -1,5 +1,5 @@
 -- The bounds of points near the origin, and the board that reaches past those of a drawing.
-use Rattle.std.proofs.Common.{◌≡◌, ℕ, ◌+◌, ◌≤◌, true, ℤ, pos, neg_ℤ, ◌+ℤ◌, ◌-ℤ◌, ◌≤ℤ◌, List, [], ◌∷◌, fold, Option, Some, None, sym, ap, subst, refl, arith, inl, inr}
+use Rattle.std.proofs.Common.{◌≡◌, ℕ, zero, suc, ◌+◌, ◌<◌, ◌≤◌, Bool, true, ℤ, pos, neg_ℤ, ◌+ℤ◌, ◌-ℤ◌, ◌≤ℤ◌, List, [], ◌∷◌, length, get_or, fold, Option, Some, None, sym, ap, subst, refl, arith, inl, inr}
 use Rattle.std.specs.Prelude.{nat_le, unsigned_abs, unwrap_or}
 use Rattle.std.specs.List.{flat_map, list_all}
 use Rattle.std.specs.Int.{int_max, int_min}
@@ -12,7 +12,7 @@ use Rattle.grid_board.specs.declared.bounds.Bounds.{Bounds}
 use Rattle.grid_board.specs.Boards.{contains, AreBounds}
 use Rattle.grid_board.specs.Points.{are_near, is_near}
 use Rattle.grid_board.proofs.Within.{inside_facts, inside_test, IsInside}
-use Rattle.run_laying.specs.Attempts.{bounds_at, bounds_of, bounds_past, bounds_with}
+use Rattle.drawing_weights.specs.Reach.{bounds_at, bounds_of, bounds_past, bounds_with}
 
 min_left : (a b : ℤ) → int_min a b ≤ℤ a
 min_left a b = omega (arith, ints, int_min_is a b)
@@ -31,6 +31,12 @@ max_right a b = omega (arith, ints, int_max_is a b)
 
 max_below : (c a b : ℤ) → a ≤ℤ c → b ≤ℤ c → int_max a b ≤ℤ c
 max_below c a b h k = omega (arith, ints, int_max_is a b)
+
+-- what holds of all points holds of the one at a place
+pub near_at : (test : GridPoint → Bool) (ps : List GridPoint) (i : ℕ) (d : GridPoint) → list_all test ps ≡ true → i < length ps → test (get_or ps i d) ≡ true
+near_at test [] i d e h = absurd (omega arith)
+near_at test (p ∷ ps) zero d e h = (and_parts _ _ e).0
+near_at test (p ∷ ps) (suc i) d e h = near_at test ps i d (and_parts _ _ e).1 (omega arith)
 
 -- bounds of points that lie within so many steps of the origin either way
 pub record IsSpan (most : ℕ) (b : Bounds) : Type 0 where
@@ -126,6 +132,13 @@ inside_near most margin first near p e =
     let i = inside_facts (bounds_past margin first) p e in
     and_from (nat_le (unsigned_abs p.x) (most + margin)) (nat_le (unsigned_abs p.y) (most + margin))
     (le-leb (unsigned_abs p.x) (most + margin) (omega (arith, ints, s.left, s.right, i.west, i.east))) (le-leb (unsigned_abs p.y) (most + margin) (omega (arith, ints, s.bottom, s.top, i.south, i.north)))
+
+pub within_near : (most margin : ℕ) (first : List PlainWalk) → are_near most first ≡ true → (walks : List PlainWalk)
+    → list_all (λ (w : PlainWalk). list_all (contains (bounds_past margin first)) (points_of w)) walks ≡ true → are_near (most + margin) walks ≡ true
+within_near most margin first near walks e =
+    all_from (λ (w : PlainWalk). list_all (is_near (most + margin)) (points_of w)) walks
+    (λ w m. all_from (is_near (most + margin)) (points_of w)
+    (λ p k. inside_near most margin first near p (all_at (contains (bounds_past margin first)) (points_of w) p (all_at (λ (v : PlainWalk). list_all (contains (bounds_past margin first)) (points_of v)) walks w e m) k)))
 
 module _ (first : List PlainWalk) (near : are_near 1900 first ≡ true) (margin : ℕ) (small : margin ≤ 20) where
   pub past_bounds : AreBounds (bounds_past margin first)

@@ -1,18 +1,18 @@
-//! The board on which attempts are made.
+//! The bounds of the board on which a drawing is changed.
 
 ghost use Rattle.std.specs.Prelude.{◌≡◌, ◌≤◌, ◌+ℤ◌, ◌-ℤ◌, pos, fold, unsigned_abs, unwrap_or, IfOk, None, Some, true};
 ghost use Rattle.std.specs.List.{list_all};
 ghost use Rattle.grid_board.specs.Points.{are_near, is_near};
-ghost use Rattle.run_laying.specs.Attempts.{bounds_at, bounds_past, bounds_with};
+ghost use Rattle.drawing_weights.specs.Reach.{bounds_at, bounds_past, bounds_with};
 
-use crate::points::push_points;
+use crate::grid_points::push_points;
 use grid_board::Bounds;
 use map_base::NoMemory;
 use octi_grid::{GridPoint, Walk};
 use std::alloc::Global;
 
 /// The bounds that reach so many steps past the grid points of a drawing, past the origin where it has none.
-pub(crate) fn bounds_past(alloc: Global, margin: u32, walks: &[Walk]) -> Result<Bounds, NoMemory>
+pub fn bounds_past(alloc: Global, margin: u32, walks: &[Walk]) -> Result<Bounds, NoMemory>
     requires margin { margin ≤ 20 }
     requires near { are_near 1900 walks.now ≡ true }
     ensures { IfOk result (λ bounds. bounds ≡ bounds_past margin walks.now) }

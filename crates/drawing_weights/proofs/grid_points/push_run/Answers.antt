@@ -4,7 +4,7 @@ use Rattle.octi_grid.specs.Taking.{trail}
 use Rattle.octi_grid.specs.Ways.{after, east_of, north_of, step_from}
 use Rattle.octi_grid.proofs.WayLemmas.{east_small, north_small, reach}
 use Rattle.octi_grid.proofs.TakingLemmas.{after_more, run_more}
-use Rattle.drawing_search.proofs.points.push_run.Goals as goal
+use Rattle.drawing_weights.proofs.grid_points.push_run.Goals as goal
 
 pub loop-preserved : goal.loop-preserved
 loop-preserved c =

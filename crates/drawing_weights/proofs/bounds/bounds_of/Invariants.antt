@@ -1,7 +1,7 @@
 use Rattle.std.proofs.Common.{◌≡◌, None, drop, fold}
-use Rattle.octi_moves.specs.Moves.{bounds_with}
-use Rattle.octi_moves.proofs.FieldFacts.{SpanOf}
-use Rattle.octi_moves.proofs.bounds.bounds_of.Given as goal
+use Rattle.drawing_weights.specs.Reach.{bounds_with}
+use Rattle.drawing_weights.proofs.Spans.{SpanOf}
+use Rattle.drawing_weights.proofs.bounds.bounds_of.Given as goal
 
 -- the bounds so far, of points near the origin, and the points that are left
 abbrev pub invariant-loop-p : goal.invariant-loop-p

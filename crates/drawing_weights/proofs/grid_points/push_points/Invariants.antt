@@ -4,7 +4,7 @@ use Rattle.octi_grid.specs.Taking.{trail}
 use Rattle.octi_grid.specs.Ways.{points_from, IsWithin}
 use Rattle.octi_grid.specs.Walks.{points_of}
 use Rattle.octi_grid.specs.Runs.{steps_of}
-use Rattle.drawing_search.proofs.points.push_points.Given as goal
+use Rattle.drawing_weights.proofs.grid_points.push_points.Given as goal
 
 -- the points of the runs so far, and of those that are left
 abbrev pub invariant-loop-run : goal.invariant-loop-run

@@ -10,8 +10,8 @@ use Rattle.octi_grid.specs.Runs.{steps_of}
 use Rattle.octi_grid.proofs.WayLemmas.{first_of-points, run_short}
 use Rattle.octi_grid.proofs.RunLemmas.{no_run, points_of_rest, points_of_run}
 use Rattle.octi_grid.proofs.TakingLemmas.{trail-append}
-use Rattle.drawing_search.proofs.Trails.{points_trail}
-use Rattle.drawing_search.proofs.points.push_points.Goals as goal
+use Rattle.drawing_weights.proofs.Trails.{points_trail}
+use Rattle.drawing_weights.proofs.grid_points.push_points.Goals as goal
 
 pub loop-run-init : goal.loop-run-init
 loop-run-init c =
