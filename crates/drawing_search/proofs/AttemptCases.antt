@@ -34,7 +34,7 @@ use Rattle.drawing_search.proofs.LaidAll.{same_gains}
 use Rattle.drawing_search.proofs.LayingAll.{least_of, too_heavy, IsReady}
 use Rattle.drawing_search.proofs.Lifts.{group_of}
 use Rattle.drawing_search.proofs.Moving.{begun_clear, begun_is_legal, can_stand_moved, moved_back, moved_liftable, moved_once, old_flags, same_room, stood_alike, stood_each_weighs}
-use Rattle.drawing_search.proofs.PutBack.{stood_walks, ArePutOnce, IsPut}
+use Rattle.drawing_search.proofs.PutBack.{stood_walks, ArePutOnce, point_still}
 
 -- runs may be laid on what is alike
 clear_alike : (j k : Sketch) (c : Chain) → AreAlike j k → IsClearFor k c → IsClearFor j c
@@ -52,11 +52,6 @@ free_of k c h = record {
   inner = λ i d below. h.inner (get_or (inner_nodes c.steps) i d) (in_at (inner_nodes c.steps) i d below);
   walks = λ i d below. h.walks (get_or c.steps i d) (in_at c.steps i d below);
 }
-
--- a node that is not put stays where it was, and where nodes stand that move is where they are put
-point_still : (j : Sketch) (ms : List (NodeId × GridPoint)) (n : ℕ) → (IsPut n ms → ⊥) → point_of_node (fold stood_at j ms) n ≡ point_of_node j n
-point_still j [] n out = refl
-point_still j (m ∷ ms) n out = point_still (stood_at j m) ms n (λ (p, i, same). out (p, inr i, same)) ∙ get_or-set_other j.points m.0.0 n m.1 nowhere (λ e. out (m, inl refl, sym e))
 
 -- another node that stands changes nothing
 others_after : (k : Sketch) (m : NodeId) (p : GridPoint) (v : Vector) (n : NodeId) → (m.0 ≡ n.0 → ⊥) → (ps : List (NodeId × GridPoint)) → point_after k v ps n ≡ point_after (stood_at k (m, p)) v ps n

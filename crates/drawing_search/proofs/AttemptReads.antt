@@ -1,5 +1,5 @@
 -- What an attempt knows of nodes, runs and bounds, as it reads them.
-use Rattle.std.proofs.Common.{◌≡◌, ◌∙◌, sym, ap, ap₂, subst, ℕ, ◌+◌, ◌<◌, ◌≤◌, true, false, min, List, length, fold, map, Option, Some, None, arith}
+use Rattle.std.proofs.Common.{◌≡◌, ◌∙◌, sym, ap, subst, ℕ, ◌+◌, ◌<◌, ◌≤◌, true, false, min, List, length, fold, map, Option, Some, None, arith}
 use Rattle.std.specs.List.{sum_by}
 use Rattle.std.specs.Prelude.{All}
 use Rattle.map_base.specs.declared.ids.NodeId.{NodeId}
@@ -93,10 +93,7 @@ module _ (graph : GraphParts) (fit : IsConsistent graph) (scale : Scale) (first 
       base_there = base_is ∙ ap (λ (xs : List (NodeId × GridPoint)). l.rest + sum_by (λ (m : NodeId × GridPoint). apart_weight_by scale m.0.0 (first_point first m.0.0) m.1) (all_moved v xs)) moved_is
 
       ahead_there : ahead ≡ min 18446744073709551615 (gains_at_least (point_after old v l.moved.items) g.runs l.least.items)
-      ahead_there =
-          ahead_is
-          ∙ ap (λ (xs : List (NodeId × GridPoint)). min 18446744073709551615 (gains_at_least (point_after old v xs) cs ls)) moved_is
-          ∙ ap₂ (λ (rs : List Chain) (bs : List LeastTurns). min 18446744073709551615 (gains_at_least (point_after old v l.moved.items) rs bs)) runs_is least_is
+      ahead_there = ahead_is ∙ (λ i. min 18446744073709551615 (gains_at_least (point_after old v (moved_is i)) (runs_is i) (least_is i)))
 
       pub read_heavy : weight ≤ min 18446744073709551615 (base + ahead) → IsAttempted scale graph first g l v old weight old None
       read_heavy heavy = attempt_heavy graph fit scale first g l v old weight off room_is base ahead base_there ahead_there heavy

@@ -11,7 +11,6 @@ use Rattle.line_chains.specs.declared.chain.Chain.{Chain}
 use Rattle.octi_grid.specs.declared.point.GridPoint.{GridPoint}
 use Rattle.octi_grid.specs.Walks.{PlainWalk}
 use Rattle.octi_grid.proofs.Members.{In}
-use Rattle.grid_board.specs.declared.bounds.Bounds.{Bounds}
 use Rattle.segment_router.proofs.SettledLemmas.{nowhere}
 use Rattle.drawing_weights.specs.Scales.{Scale}
 use Rattle.run_laying.specs.Attempts.{attempted_on, may_move, Attempt}
@@ -42,10 +41,7 @@ use Rattle.drawing_search.proofs.Lifts.{group_of}
 -- where all nodes stand, they are one
 pub alike_whole : (j k : Sketch) → AreAlike j k → ((n : ℕ) → n < length k.points → is_standing k n ≡ true) → j ≡ k
 alike_whole j k a stands =
-    ap (λ (b : Bounds). (let x : Sketch = record { bounds = b; points = j.points; stand = j.stand; walks = j.walks } in x)) a.bounds
-    ∙ ap (λ (ps : List GridPoint). (let x : Sketch = record { bounds = k.bounds; points = ps; stand = j.stand; walks = j.walks } in x)) (same_list nowhere j.points k.points a.points_each (λ n below. a.points n (stands n below)))
-    ∙ ap (λ (fs : List Bool). (let x : Sketch = record { bounds = k.bounds; points = k.points; stand = fs; walks = j.walks } in x)) a.stand
-    ∙ ap (λ (os : List (Option PlainWalk)). (let x : Sketch = record { bounds = k.bounds; points = k.points; stand = k.stand; walks = os } in x)) a.walks
+    λ i. record { bounds = a.bounds i; points = same_list nowhere j.points k.points a.points_each (λ n below. a.points n (stands n below)) i; stand = a.stand i; walks = a.walks i }
 
 -- runs are laid on both, or on neither
 pub all_alike : (graph : GraphParts) → IsConsistent graph → (cs : List Chain) (j k : Sketch) → AreAlike j k → IsLegalSketch graph k → ((c : Chain) → In c cs → IsRun graph c) → AreBeside cs → ((c : Chain) → In c cs → IsClearFor k c)

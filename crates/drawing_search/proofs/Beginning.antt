@@ -72,9 +72,7 @@ module _ (graph : GraphParts) (fit : IsConsistent graph) (bounds : Bounds) (ws :
   stand_same = ap (λ n. replicate n true) (length-map-range_with_len (point_of graph ws) 0 (length graph.kinds)) ∙ sym (all_true 0 (length graph.kinds))
 
   whole_is : without_runs graph bounds ws no_attempt ≡ whole_sketch bounds (points_all graph ws) ws
-  whole_is =
-      sym (ap (λ (fs : List Bool). (let j : Sketch = record { bounds = bounds; points = points_all graph ws; stand = fs; walks = map (λ (w : PlainWalk). Some w) ws } in j)) stand_same
-      ∙ ap (λ (os : List (Option PlainWalk)). (let j : Sketch = record { bounds = bounds; points = points_all graph ws; stand = map (λ n. not (is_inner [] n)) (range_with_len 0 (length graph.kinds)); walks = os } in j)) walks_same)
+  whole_is = λ i. record { bounds = bounds; points = points_all graph ws; stand = sym stand_same i; walks = sym walks_same i }
 
   pub whole_good : IsGood graph bounds (whole_sketch bounds (points_all graph ws) ws)
   whole_good =

@@ -18,6 +18,11 @@ use Rattle.run_laying.specs.Sketches.{is_standing, lifted, point_of_node, stood,
 use Rattle.drawing_search.specs.Shown.{bare_sketch}
 use Rattle.run_laying.proofs.Shown.{in_standing, node_shown, shown_node, stands_below}
 
+exchanged : (s t u : Bool) → (s || (t || u)) ≡ (t || (s || u))
+exchanged true true u = refl
+exchanged true false u = refl
+exchanged false t u = refl
+
 -- ---- nodes
 
 -- a node that didn't stand stands at a point
@@ -29,11 +34,6 @@ standing_more (true ∷ bs) (q ∷ qs) zero p x there below e = cc
 standing_more (false ∷ bs) (q ∷ qs) zero p x there below e = refl
 standing_more (true ∷ bs) (q ∷ qs) (suc n) p x there below e =
     ap (λ t. are_one q x || t) (standing_more bs qs n p x (omega arith) (omega arith) e) ∙ exchanged (are_one q x) (are_one p x) (list_any (λ (q : GridPoint). are_one q x) (filter_map standing_point (zip bs qs)))
-  where
-    exchanged : (s t u : Bool) → (s || (t || u)) ≡ (t || (s || u))
-    exchanged true true u = refl
-    exchanged true false u = refl
-    exchanged false t u = refl
 standing_more (false ∷ bs) (q ∷ qs) (suc n) p x there below e = standing_more bs qs n p x (omega arith) (omega arith) e
 
 pub board_stood : (k : Sketch) (n : NodeId) (p : GridPoint) → n.0 < length k.points → n.0 < length k.stand → is_standing k n.0 ≡ false → board_of (stood k n p) ≡ with_node (board_of k) p
@@ -101,11 +101,6 @@ taken_more (None ∷ ws) zero w d below e = refl
 taken_more (Some v ∷ ws) zero w d below e = cc
 taken_more (o ∷ ws) (suc s) w d below e =
     ap (λ t. has_doubled d o || t) (taken_more ws s w d (omega arith) e) ∙ exchanged (has_doubled d o) (is_among (doubled_of w) d) (list_any (has_doubled d) ws)
-  where
-    exchanged : (s t u : Bool) → (s || (t || u)) ≡ (t || (s || u))
-    exchanged true true u = refl
-    exchanged true false u = refl
-    exchanged false t u = refl
 
 pub board_walked : (k : Sketch) (s : SegId) (w : PlainWalk) → s.0 < length k.walks → walk_in k s ≡ None → board_of (with_walk_of k s (Some w)) ≡ with_walk (board_of k) w
 board_walked k s w below e = λ i. record {

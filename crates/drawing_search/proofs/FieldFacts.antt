@@ -1,5 +1,5 @@
 -- What the joined pairs of a field are.
-use Rattle.std.proofs.Common.{◌≡◌, refl, sym, ◌∙◌, ap, subst, ℕ, ◌+◌, ◌*◌, ◌<◌, ◌≤◌, Bool, true, false, cond, List, [], ◌∷◌, length, map, drop, get_or, Contains, inl, inr, arith, length-drop}
+use Rattle.std.proofs.Common.{◌≡◌, refl, sym, ◌∙◌, ap, subst, ℕ, ◌+◌, ◌*◌, ◌<◌, ◌≤◌, Bool, true, false, cond, List, [], ◌∷◌, length, map, drop, get_or, Contains, inl, inr, arith, length-drop, ◌⊎◌}
 use Rattle.std.proofs.Math.ListN.{get_or-map}
 use Rattle.std.proofs.Math.Nat.{mul-le-mul_left}
 use Rattle.std.proofs.lemmas.List.{drop_more, length-map}
@@ -22,6 +22,8 @@ use Rattle.drawing_search.specs.declared.gains.Field.{Field}
 use Rattle.drawing_search.specs.Gains.{pairs_at, step_gain, steps_gain, IsField}
 use Rattle.drawing_search.proofs.JoinedPairs.{few_pairs}
 use Rattle.drawing_search.proofs.Takable.{in_from}
+use Rattle.map_base.specs.declared.ids.NodeId.{NodeId}
+use Rattle.run_laying.specs.Runs.{MeetAlone}
 
 -- a pair comes of a join
 pub of_join : (js : List Join) (p : SegId × SegId) → In p (joined_pairs js) → (j : Join) × In j js × (p ≡ (j.e, j.f))
@@ -48,6 +50,19 @@ pair_joined graph fit n node p m =
     let is : IsJoin graph.lines (get_or graph.rounds n []) found.0 = all_in (IsJoin graph.lines (get_or graph.rounds n [])) (get_or graph.joins n []) found.0 (fit.joins n (omega (arith, node, fit.joins_each))) found.1 in
     subst (IsJoined graph n) (sym found.2)
     (record { order = is.order; lesser = in_from (get_or graph.rounds n []) found.0.e is.lesser; greater = in_from (get_or graph.rounds n []) found.0.f is.greater })
+
+-- a segment at a node at which two meet alone is one of them
+pub of_two : (graph : GraphParts) (a : SegId) (m : NodeId) (b : SegId) → MeetAlone graph a m b → (s : SegId) → In s (get_or graph.rounds m.0 []) → (s ≡ a) ⊎ (s ≡ b)
+of_two graph a m b alone s i = by_round alone
+  where
+    which : (p q : SegId) → In s (p ∷ q ∷ []) → (s ≡ p) ⊎ (s ≡ q)
+    which p q (inl e) = inl e
+    which p q (inr (inl e)) = inr e
+    which p q (inr (inr n)) = absurd n
+
+    by_round : MeetAlone graph a m b → (s ≡ a) ⊎ (s ≡ b)
+    by_round (inl e) = which a b (subst (λ (v : List SegId). In s v) e i)
+    by_round (inr e) = elim (which b a (subst (λ (v : List SegId). In s v) e i)) [ inl f ↦ inr f | inr f ↦ inl f ]
 
 -- segments of a round, by their places
 in_round_below : (graph : GraphParts) → IsConsistent graph → (n : ℕ) → n < length graph.kinds → (s : SegId) → Contains (get_or graph.rounds n []) s → s.0 < length graph.ends
@@ -98,13 +113,14 @@ turns_small f fit n node ps is total i small within =
 
 -- ---- steps of a run
 
+-- a step is behind another where there is one
+pub one_behind : (ts : List ChainStep) (i : ℕ) → nat_lt (i + 1) (length ts) ≡ nat_lt 0 (length (drop (i + 1) ts))
+one_behind ts i = grind (arith, nat_tests, length-drop (i + 1) ts)
+
 pub gain_more : (scale : Scale) (graph : GraphParts) (first : List GridPoint) (k : Sketch) (ts : List ChainStep) (i : ℕ) (d : ChainStep) → i < length ts
     → steps_gain scale graph first k (drop i ts) ≡ step_gain scale graph first k (get_or ts i d) (nat_lt (i + 1) (length ts)) + steps_gain scale graph first k (drop (i + 1) ts)
-gain_more scale graph first k ts i d h = ap (steps_gain scale graph first k) (drop_more ts i d h) ∙ by_rest (drop (i + 1) ts) (nat_lt (i + 1) (length ts)) last
+gain_more scale graph first k ts i d h = ap (steps_gain scale graph first k) (drop_more ts i d h) ∙ by_rest (drop (i + 1) ts) (nat_lt (i + 1) (length ts)) (one_behind ts i)
   where
-    last : nat_lt (i + 1) (length ts) ≡ nat_lt 0 (length (drop (i + 1) ts))
-    last = grind (arith, nat_tests, length-drop (i + 1) ts)
-
     by_rest : (rest : List ChainStep) (b : Bool) → b ≡ nat_lt 0 (length rest) → steps_gain scale graph first k (get_or ts i d ∷ rest) ≡ step_gain scale graph first k (get_or ts i d) b + steps_gain scale graph first k rest
     by_rest [] b e = subst (λ c. step_gain scale graph first k (get_or ts i d) false ≡ step_gain scale graph first k (get_or ts i d) c + 0) (sym e) (omega arith)
     by_rest (u ∷ us) b e = ap (λ c. step_gain scale graph first k (get_or ts i d) c + steps_gain scale graph first k (u ∷ us)) (sym (e ∙ lt-ltb 0 (length (u ∷ us)) (omega arith)))

@@ -1,5 +1,5 @@
 -- Runs that are laid one after another add no less than their bounds say, also those that were made beside fewer walks.
-use Rattle.std.proofs.Common.{◌≡◌, refl, sym, ◌∙◌, ap, ap₂, subst, ℕ, ◌+◌, ◌-◌, ◌/◌, ◌<◌, ◌≤◌, Bool, true, false, cond, eqb, min, List, [], ◌∷◌, length, fold, map, get_or, Option, Some, None, ◌⊎◌, inl, inr, arith, length-set, get_or-set_same}
+use Rattle.std.proofs.Common.{◌≡◌, refl, sym, ◌∙◌, ap, subst, ℕ, ◌+◌, ◌-◌, ◌/◌, ◌<◌, ◌≤◌, Bool, true, false, cond, eqb, min, List, [], ◌∷◌, length, fold, map, get_or, Option, Some, None, ◌⊎◌, inl, inr, arith, length-set, get_or-set_same}
 use Rattle.std.proofs.Math.Nat.{mul-le-mul_left}
 use Rattle.std.proofs.lemmas.Bool.{cases_eq, eq-eqb, true≢false}
 use Rattle.std.proofs.lemmas.List.Sums.{sum_by-cons}
@@ -28,10 +28,10 @@ use Rattle.segment_router.proofs.RouteLemmas.{in_filter, route_parts, IsRoute}
 use Rattle.segment_router.proofs.SettledLemmas.{nowhere}
 use Rattle.drawing_weights.specs.Scales.{turn_over, Scale}
 use Rattle.run_laying.specs.Attempts.{inner_nodes}
-use Rattle.run_laying.specs.Laying.{all_laid, board_of, board_under, first_seg_of, if_laid, laid, last_seg_of, with_piece, with_pieces, Sketch}
-use Rattle.run_laying.specs.Runs.{AreBeside, AreSteps, IsRun}
+use Rattle.run_laying.specs.Laying.{board_of, board_under, first_seg_of, laid, last_seg_of, with_piece, with_pieces, Sketch}
+use Rattle.run_laying.specs.Runs.{AreSteps, IsRun}
 use Rattle.run_laying.specs.Sketches.{is_standing, point_of_node, walk_in, IsEndOf, IsLegalSketch}
-use Rattle.run_laying.proofs.Attempted.{beside_off, laid_on, still_clear, IsClearFor, IsLaidOn}
+use Rattle.run_laying.proofs.Attempted.{IsClearFor, IsLaidOn}
 use Rattle.run_laying.proofs.Cuts.{split_end}
 use Rattle.run_laying.proofs.LaidRuns.{same_walk, IsCut}
 use Rattle.run_laying.proofs.RunFacts.{end_below, in_round, leads_from, leads_to, IsOff}
@@ -41,10 +41,10 @@ use Rattle.drawing_search.specs.Bounds.{gains_at_least, HaveBounds, IsBoundOf}
 use Rattle.drawing_search.specs.Gains.{pairs_at, run_gain, sketch_weight, turn_by, turns_by}
 use Rattle.drawing_search.specs.Least.{allowed_dirs, least_beside, least_by, never, ports_for, straight_way}
 use Rattle.drawing_search.proofs.Gained.{leads_where, run_gained, same_point}
-use Rattle.drawing_search.proofs.PricedRuns.{first_leads}
 use Rattle.drawing_search.proofs.RunBounds.{fold_least, least_allowed, run_no_less, run_within}
 use Rattle.drawing_search.proofs.Spaced.{allowed_fewer}
-use Rattle.drawing_search.proofs.Takable.{on_or_off}
+use Rattle.drawing_search.proofs.Takable.{on_or_off, from_map}
+use Rattle.run_laying.proofs.Kept.{first_leads}
 
 -- ---- bounds beside more walks
 
@@ -102,11 +102,6 @@ module _ (graph : GraphParts) (k j : Sketch) (more : HasMore k j) where
   least_more low [] a h each = h
   least_more low (x ∷ xs) a h each = least_more (min low x) xs a (omega (arith, h, each x (inl refl))) (λ y i. each y (inr i))
 
-  from_mapped : {X : Type 0} (f : X → ℕ) (xs : List X) (n : ℕ) → In n (map f xs) → (x : X) × In x xs × (n ≡ f x)
-  from_mapped f [] n i = absurd i
-  from_mapped f (x ∷ xs) n (inl e) = (x, inl refl, e)
-  from_mapped f (x ∷ xs) n (inr i) = let rest = from_mapped f xs n i in (rest.0, inr rest.1, rest.2)
-
   pub bound_still : IsConsistent graph → (scale : Scale) (c : Chain) (way : ℕ) → In (first_seg_of c.steps) (get_or graph.rounds c.from.0 []) → In (last_seg_of c) (get_or graph.rounds (end_of c).0 []) → least_beside scale graph k c way ≤ least_beside scale graph j c way
   bound_still fit scale c way from_on to_on =
       least_more never (flat_map (λ d. map (least_by scale graph j c way d) (allowed_dirs graph j (end_of c).0 (last_seg_of c))) (allowed_dirs graph j c.from.0 (first_seg_of c.steps))) (least_beside scale graph k c way)
@@ -119,7 +114,7 @@ module _ (graph : GraphParts) (k j : Sketch) (more : HasMore k j) where
       each : (x : ℕ) → In x (flat_map (λ d. map (least_by scale graph j c way d) (allowed_dirs graph j (end_of c).0 (last_seg_of c))) (allowed_dirs graph j c.from.0 (first_seg_of c.steps))) → least_beside scale graph k c way ≤ x
       each x i =
           let found = from_flat_map (λ d. map (least_by scale graph j c way d) (allowed_dirs graph j (end_of c).0 (last_seg_of c))) (allowed_dirs graph j c.from.0 (first_seg_of c.steps)) x i in
-          let other = from_mapped (least_by scale graph j c way found.0) (allowed_dirs graph j (end_of c).0 (last_seg_of c)) x found.2 in
+          let other = from_map (least_by scale graph j c way found.0) (allowed_dirs graph j (end_of c).0 (last_seg_of c)) x found.2 in
           let leaves = in_filter (λ d. eqb (bit_at (ports_for graph j c.from.0 (first_seg_of c.steps)) (number_of d)) 1) directions found.0 found.1 in
           let arrives = in_filter (λ d. eqb (bit_at (ports_for graph j (end_of c).0 (last_seg_of c)) (number_of d)) 1) directions other.0 other.1 in
           subst (λ n. least_beside scale graph k c way ≤ n) (sym other.2) (of_ports found.0 other.0 leaves.0 arrives.0)
@@ -238,8 +233,7 @@ module _ (graph : GraphParts) (fit : IsConsistent graph) (scale : Scale) (first 
   same_gains f g (c ∷ cs) [] same = refl
   same_gains f g (c ∷ cs) (l ∷ ls) same =
       let here = same c (inl refl) in
-      ap₂ (λ (a b : GridPoint). reach_of a b + slice_index l.by (straight_way a b) + gains_at_least f cs ls) here.0 here.1
-      ∙ ap (λ n. reach_of (g c.from) (g (end_of c)) + slice_index l.by (straight_way (g c.from) (g (end_of c))) + n) (same_gains f g cs ls (λ d i. same d (inr i)))
+      λ i. reach_of (here.0 i) (here.1 i) + slice_index l.by (straight_way (here.0 i) (here.1 i)) + same_gains f g cs ls (λ d j. same d (inr j)) i
 
   -- what one run leaves for the others
   pub more_walks : (c : Chain) (k mid : Sketch) → IsClearFor k c → IsLaidOn graph c k mid → HasMore k mid
@@ -253,35 +247,3 @@ module _ (graph : GraphParts) (fit : IsConsistent graph) (scale : Scale) (first 
     where
       there : point_of_node (with_pieces graph c.from c.steps on.pieces k) (end_of c).0 ≡ point_of_node k (end_of c).0
       there = end_there graph c.from c.steps on.pieces k on.walk on.each on.cut (omega (arith, stands_below graph k h (end_of c).0 clear.end, h.points_each)) ∙ on.free.end
-
-  -- all of them add no less than their bounds together
-  pub rest_no_less : (cs : List Chain) (ls : List LeastTurns) (k fin : Sketch) → IsLegalSketch graph k → ((c : Chain) → In c cs → IsRun graph c) → AreBeside cs → ((c : Chain) → In c cs → IsClearFor k c) → HaveBounds scale graph k cs ls → all_laid graph cs k ≡ Some fin
-      → sketch_weight scale graph first k + gains_at_least (λ (n : NodeId). point_of_node k n.0) cs ls ≤ sketch_weight scale graph first fin
-  rest_no_less [] ls k fin h runs beside clear have e = let same : k ≡ fin = cc in omega (arith, ap (sketch_weight scale graph first) same)
-  rest_no_less (c ∷ cs) [] k fin h runs beside clear have e = absurd have
-  rest_no_less (c ∷ cs) (l ∷ ls) k fin h runs beside clear have e =
-      by_laid (λ mid legal ready bounds found. rest_no_less cs ls mid fin legal (λ d i. runs d (inr i)) beside.1 ready bounds found) (laid graph c k) refl e
-    where
-      here : IsClearFor k c
-      here = clear c (inl refl)
-
-      run : IsRun graph c
-      run = runs c (inl refl)
-
-      Rest : Type 0
-      Rest = (mid : Sketch) → IsLegalSketch graph mid → ((d : Chain) → In d cs → IsClearFor mid d) → HaveBounds scale graph mid cs ls → all_laid graph cs mid ≡ Some fin
-          → sketch_weight scale graph first mid + gains_at_least (λ (n : NodeId). point_of_node mid n.0) cs ls ≤ sketch_weight scale graph first fin
-
-      of_laid : Rest → (mid : Sketch) → IsLaidOn graph c k mid → all_laid graph cs mid ≡ Some fin → sketch_weight scale graph first k + gains_at_least (λ (n : NodeId). point_of_node k n.0) (c ∷ cs) (l ∷ ls) ≤ sketch_weight scale graph first fin
-      of_laid rest mid on found =
-          let g = gained c k mid l h run here have.0 on in
-          let more = more_walks c k mid here on in
-          let later = rest mid on.legal
-          (λ d i. subst (λ (j : Sketch). IsClearFor j d) on.is (still_clear graph fit c d on.pieces k run (runs d (inr i)) (λ q p on_c on_d. beside_off c cs beside d i q p on_c on_d) (clear d (inr i))))
-          (bounds_still k mid more cs ls (λ d i. runs d (inr i)) have.1) found in
-          let same = gains_stay c k mid h here on cs ls (λ d i. clear d (inr i)) in
-          omega (arith, g.weight, g.no_less, later, same)
-
-      by_laid : Rest → (o : Option Sketch) → laid graph c k ≡ o → if_laid (all_laid graph cs) o ≡ Some fin → sketch_weight scale graph first k + gains_at_least (λ (n : NodeId). point_of_node k n.0) (c ∷ cs) (l ∷ ls) ≤ sketch_weight scale graph first fin
-      by_laid rest None is found = cc
-      by_laid rest (Some mid) is found = of_laid rest mid (laid_on graph fit c k mid h run here is) found

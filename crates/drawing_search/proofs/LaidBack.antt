@@ -43,31 +43,25 @@ none_so_far k = record {
   inner = λ c i m j. absurd i;
 }
 
-points_many : (graph : GraphParts) (n : NodeId) (ts : List ChainStep) (vs : List PlainWalk) (k : Sketch) → length (with_pieces graph n ts vs k).points ≡ length k.points
-points_many graph n [] vs k = refl
-points_many graph n (t ∷ ts) [] k = refl
-points_many graph n (t ∷ ts) (v ∷ vs) k = points_many graph t.to ts vs (with_piece graph n t v k) ∙ length-set k.points t.to.0 (end_point v)
-
-flags_many : (graph : GraphParts) (n : NodeId) (ts : List ChainStep) (vs : List PlainWalk) (k : Sketch) → length (with_pieces graph n ts vs k).stand ≡ length k.stand
-flags_many graph n [] vs k = refl
-flags_many graph n (t ∷ ts) [] k = refl
-flags_many graph n (t ∷ ts) (v ∷ vs) k = flags_many graph t.to ts vs (with_piece graph n t v k) ∙ length-set k.stand t.to.0 true
-
-walks_many : (graph : GraphParts) (n : NodeId) (ts : List ChainStep) (vs : List PlainWalk) (k : Sketch) → length (with_pieces graph n ts vs k).walks ≡ length k.walks
-walks_many graph n [] vs k = refl
-walks_many graph n (t ∷ ts) [] k = refl
-walks_many graph n (t ∷ ts) (v ∷ vs) k = walks_many graph t.to ts vs (with_piece graph n t v k) ∙ length-set k.walks t.seg.0 (Some (from_low graph t.seg n v))
+sizes_stay : (graph : GraphParts) (n : NodeId) (ts : List ChainStep) (vs : List PlainWalk) (k : Sketch)
+    → (length (with_pieces graph n ts vs k).points ≡ length k.points) × (length (with_pieces graph n ts vs k).stand ≡ length k.stand) × (length (with_pieces graph n ts vs k).walks ≡ length k.walks)
+sizes_stay graph n [] vs k = (refl, refl, refl)
+sizes_stay graph n (t ∷ ts) [] k = (refl, refl, refl)
+sizes_stay graph n (t ∷ ts) (v ∷ vs) k =
+    let rest = sizes_stay graph t.to ts vs (with_piece graph n t v k) in
+    (rest.0 ∙ length-set k.points t.to.0 (end_point v), rest.1 ∙ length-set k.stand t.to.0 true, rest.2 ∙ length-set k.walks t.seg.0 (Some (from_low graph t.seg n v)))
 
 -- and one more
 pub one_more_so_far : (graph : GraphParts) → IsConsistent graph → (cs : List Chain) (c : Chain) (old k mid : Sketch) → IsLegalSketch graph k → IsRun graph c → IsClearFor k c → IsLaidOn graph c k mid → IsSoFar cs old k → IsSoFar (cs ++ c ∷ []) old mid
 one_more_so_far graph fit cs c old k mid h run clear on s =
+    let sizes = sizes_stay graph c.from c.steps on.pieces k in
     subst (IsSoFar (cs ++ c ∷ []) old) on.is
     (record {
       same = record {
         bounds = same_bounds graph c.from c.steps on.pieces k ∙ s.same.bounds;
-        points_each = points_many graph c.from c.steps on.pieces k ∙ s.same.points_each;
-        stand_each = flags_many graph c.from c.steps on.pieces k ∙ s.same.stand_each;
-        walks_each = walks_many graph c.from c.steps on.pieces k ∙ s.same.walks_each;
+        points_each = sizes.0 ∙ s.same.points_each;
+        stand_each = sizes.1 ∙ s.same.stand_each;
+        walks_each = sizes.2 ∙ s.same.walks_each;
         stand = λ n off. by_flag n off (cases_Bool (is_standing k n)) ∙ s.same.stand n (λ (d, i, m). off (d, in_before d i, m));
         walks = λ t off. same_walk graph c.from c.steps on.pieces k t (λ q i e. off (c, in_last, (q, i, e))) ∙ s.same.walks t (λ (d, i, m). off (d, in_before d i, m));
       };

@@ -1,5 +1,5 @@
 -- Bounds of a run as they are made: one walk more, and one way more in each walk.
-use Rattle.std.proofs.Common.{◌≡◌, refl, ◌∙◌, ap, ℕ, ◌+◌, ◌*◌, ◌<◌, ◌≤◌, ◌⊎◌, inl, inr, min, List, length, map, get_or, replicate, arith}
+use Rattle.std.proofs.Common.{◌≡◌, refl, ℕ, ◌+◌, ◌*◌, ◌<◌, ◌≤◌, ◌⊎◌, inl, inr, min, List, length, map, get_or, replicate, arith}
 use Rattle.std.proofs.lemmas.Bool.{cases_lt}
 use Rattle.std.proofs.lemmas.List.{get_or-replicate, get_or_past}
 use Rattle.std.proofs.lemmas.List.FromFn.{fill_by_all, get_or-map-range_with_len, length-map-range_with_len}
@@ -16,9 +16,7 @@ least_of by price free = record { by = by; per_turn = price; free_turns = free }
 pub walk_made : (l new : LeastTurns) (first last : Dir) (overs : ℕ) → length new.by ≡ 9 → ((k : ℕ) → k < 9 → get_or new.by k 0 ≡ min (get_or l.by k 0) (overs + l.per_turn * turns_at_least first last k)) → new.per_turn ≡ l.per_turn → new.free_turns ≡ l.free_turns
     → new ≡ with_walk_by l first last overs
 walk_made l new first last overs each by price free =
-    ap (λ (bs : List ℕ). least_of bs new.per_turn new.free_turns) (fill_by_all (λ k. min (get_or l.by k 0) (overs + l.per_turn * turns_at_least first last k)) new.by 9 0 each by)
-    ∙ ap (λ p. least_of (with_walk_by l first last overs).by p new.free_turns) price
-    ∙ ap (λ f. least_of (with_walk_by l first last overs).by l.per_turn f) free
+    λ i. record { by = fill_by_all (λ k. min (get_or l.by k 0) (overs + l.per_turn * turns_at_least first last k)) new.by 9 0 each by i; per_turn = price i; free_turns = free i }
 
 -- and all stay small
 pub walk_small : (l : LeastTurns) (first last : Dir) (overs : ℕ) → IsSmallLeast l → IsSmallLeast (with_walk_by l first last overs)

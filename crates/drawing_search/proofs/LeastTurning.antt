@@ -1,5 +1,5 @@
 -- The bounds of a run are the least over all ports that its ends may have.
-use Rattle.std.proofs.Common.{◌≡◌, refl, sym, ◌∙◌, ap, ℕ, ◌+◌, ◌*◌, ◌<◌, Bool, true, false, cond, eqb, min, List, [], ◌∷◌, ◌++◌, length, filter, fold, map, get_or, Option, Some, None, arith}
+use Rattle.std.proofs.Common.{◌≡◌, refl, sym, ◌∙◌, ap, ℕ, ◌+◌, ◌*◌, ◌<◌, Bool, true, false, cond, eqb, min, List, [], ◌∷◌, ◌++◌, length, filter, fold, map, get_or, Option, Some, None, arith, ap₂}
 use Rattle.std.proofs.lemmas.List.FromFn.{get_or-map-range_with_len, length-map-range_with_len}
 use Rattle.std.proofs.lemmas.List.Sums.{fold-append}
 use Rattle.std.specs.Int.{bit_at}
@@ -142,10 +142,7 @@ module _ (scale : Scale) (graph : GraphParts) (k : Sketch) (c : Chain) where
   }
     where
       there : new ≡ fold (λ (m : LeastTurns) (d : Dir). with_first_by m d (from_over d) (map to_over directions)) l directions
-      there =
-          is
-          ∙ ap (λ (os : List (Option ℕ)). fold (λ (m : LeastTurns) (d : Dir). with_first_by m d (get_or os (number_of d) None) to) l directions) are_from
-          ∙ ap (λ (os : List (Option ℕ)). fold (λ (m : LeastTurns) (d : Dir). with_first_by m d (from_over d) os) l directions) are_to
+      there = is ∙ ap₂ (λ (os ps : List (Option ℕ)). fold (λ (m : LeastTurns) (d : Dir). with_first_by m d (get_or os (number_of d) None) ps) l directions) are_from are_to
 
       value : (way : ℕ) → way < 9 → get_or new.by way 0 ≡ get_or (map (least_beside scale graph k c) (range_with_len 0 9)) way 0
       value way few =

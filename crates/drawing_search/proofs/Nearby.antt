@@ -1,34 +1,25 @@
 -- What stands on the board of a legal sketch lies near the origin, and its walks are short.
-use Rattle.std.proofs.Common.{◌≡◌, ◌∙◌, sym, ap, ℕ, ◌<◌, Bool, true, false, eqb, List, [], ◌∷◌, map, get_or, Some, ◌⊎◌, inl, inr, refl, arith, get_or-set_other}
-use Rattle.std.proofs.lemmas.Bool.{and_from, and_parts, cases_eq, eqb-true, le-leb, ne_eqb, or_cases, true≢false}
+use Rattle.std.proofs.Common.{◌≡◌, ◌∙◌, sym, ap, ℕ, Bool, true, false, List, [], ◌∷◌, get_or, Some, ◌⊎◌, inl, inr, arith, get_or-set_other}
+use Rattle.std.proofs.lemmas.Bool.{and_from, cases_eq, le-leb}
 use Rattle.std.proofs.lemmas.Int.{ints}
-use Rattle.std.proofs.lemmas.List.{length-map}
-use Rattle.std.proofs.lemmas.Map.Keys.{IsDistinct-cons}
-use Rattle.std.proofs.lemmas.Map.Steps.{length-le_from_distinct_below}
 use Rattle.std.specs.Prelude.{nat_le, unsigned_abs, All}
-use Rattle.std.specs.List.{list_all, list_any, AllByRecursion, IsDistinct}
 use Rattle.map_base.specs.declared.ids.NodeId.{NodeId}
 use Rattle.map_base.specs.declared.ids.SegId.{SegId}
 use Rattle.graph_core.specs.declared.parts.GraphParts.{GraphParts}
 use Rattle.line_chains.specs.declared.chain.Chain.{Chain}
-use Rattle.octi_grid.specs.declared.dir.Dir.{Dir}
 use Rattle.octi_grid.specs.declared.point.GridPoint.{GridPoint}
-use Rattle.octi_grid.specs.Ways.{doubled, doubled_from, points_from, step_from}
-use Rattle.octi_grid.specs.Walks.{doubled_of, points_of, PlainWalk}
-use Rattle.octi_grid.specs.Legal.{are_distinct}
+use Rattle.octi_grid.specs.Walks.{PlainWalk}
 use Rattle.octi_grid.proofs.Members.{In}
-use Rattle.octi_grid.proofs.MeetsLemmas.{distinct_from, distinct_not_later, distinct_rest}
 use Rattle.grid_board.specs.declared.bounds.Bounds.{Bounds}
-use Rattle.grid_board.specs.Boards.{cell_of, cells_of, contains, point_of, AreBounds}
+use Rattle.grid_board.specs.Boards.{contains, AreBounds}
 use Rattle.grid_board.specs.Points.{is_near}
-use Rattle.grid_board.proofs.Within.{few_cells, inside_facts, point_below, point_of-cell}
+use Rattle.grid_board.proofs.Within.{inside_facts}
 use Rattle.segment_router.proofs.Places.{in_at}
 use Rattle.drawing_weights.specs.Drawn.{IsShort}
 use Rattle.drawing_weights.proofs.ShortWalks.{short_inside}
 use Rattle.run_laying.specs.Attempts.{inner_nodes}
 use Rattle.run_laying.specs.Laying.{Sketch}
 use Rattle.run_laying.specs.Sketches.{is_standing, lifted, point_of_node, walk_in, IsLegalSketch}
-use Rattle.run_laying.proofs.EvenCuts.{length-points}
 use Rattle.drawing_search.specs.Changes.{without_walks, AreLiftable, IsLiftable, IsTakable}
 use Rattle.drawing_search.proofs.Takable.{same_stand}
 

@@ -83,12 +83,13 @@ module _ (graph : GraphParts) (fit : IsConsistent graph) (bounds : Bounds) (ws :
   -- what an attempt takes away is the same
   pub without_is : (a : Attempt) → without graph (whole_sketch bounds (points_all graph ws) ws) a ≡ without_runs graph bounds ws a
   without_is a =
-      ap (λ (ps : List GridPoint). (let j : Sketch = record { bounds = bounds; points = ps; stand = map (stands_then k a.runs) (range_with_len 0 (length graph.kinds)); walks = map (walk_left k a.runs) (range_with_len 0 (length graph.ends)) } in j))
-      (same_map (point_then k a) (point_in_attempt graph ws a) 0 (length graph.kinds) (λ n h. point n (omega (arith, h))))
-      ∙ ap (λ (fs : List Bool). (let j : Sketch = record { bounds = bounds; points = map (point_in_attempt graph ws a) (range_with_len 0 (length graph.kinds)); stand = fs; walks = map (walk_left k a.runs) (range_with_len 0 (length graph.ends)) } in j))
-      (same_map (stands_then k a.runs) (λ n. not (is_inner a.runs n)) 0 (length graph.kinds) (λ n h. ap (λ b. b && not (is_inner a.runs n)) (whole_stands n (omega (arith, h)))))
-      ∙ ap (λ (os : List (Option PlainWalk)). (let j : Sketch = record { bounds = bounds; points = map (point_in_attempt graph ws a) (range_with_len 0 (length graph.kinds)); stand = map (λ n. not (is_inner a.runs n)) (range_with_len 0 (length graph.kinds)); walks = os } in j))
-      (same_map (walk_left k a.runs) (walk_beside ws a.runs) 0 (length graph.ends) (λ s h. ap (λ (o : Option PlainWalk). cond (is_on_runs a.runs s) None o) (whole_walk s (record { start = nowhere; steps = [] }) (omega (arith, h)))))
+      λ i. record {
+        bounds = bounds;
+        points = same_map (point_then k a) (point_in_attempt graph ws a) 0 (length graph.kinds) (λ n h. point n (omega (arith, h))) i;
+        stand = same_map (stands_then k a.runs) (λ n. not (is_inner a.runs n)) 0 (length graph.kinds) (λ n h. ap (λ b. b && not (is_inner a.runs n)) (whole_stands n (omega (arith, h)))) i;
+        walks = same_map (walk_left k a.runs) (walk_beside ws a.runs) 0 (length graph.ends)
+            (λ s h. ap (λ (o : Option PlainWalk). cond (is_on_runs a.runs s) None o) (whole_walk s (record { start = nowhere; steps = [] }) (omega (arith, h)))) i;
+      }
     where
       point : (n : ℕ) → n < length graph.kinds → point_then k a n ≡ point_in_attempt graph ws a n
       point n h = ap (λ (p : GridPoint). cond (has_node a.nodes n) (after p (replicate a.count a.dir)) p) (whole_point n h)
@@ -195,9 +196,7 @@ module _ (graph : GraphParts) (fit : IsConsistent graph) (k : Sketch) (h : IsLeg
 
   pub sketch_by_walks : k ≡ whole_sketch k.bounds (points_all graph (walks_of k)) (walks_of k)
   sketch_by_walks =
-      ap (λ (ps : List GridPoint). (let j : Sketch = record { bounds = k.bounds; points = ps; stand = k.stand; walks = k.walks } in j)) points_are
-      ∙ ap (λ (fs : List Bool). (let j : Sketch = record { bounds = k.bounds; points = points_all graph kept; stand = fs; walks = k.walks } in j)) stand_is
-      ∙ ap (λ (os : List (Option PlainWalk)). (let j : Sketch = record { bounds = k.bounds; points = points_all graph kept; stand = replicate (length (points_all graph kept)) true; walks = os } in j)) (sym walks_are)
+      λ i. record { bounds = k.bounds; points = points_are i; stand = stand_is i; walks = sym walks_are i }
 
 -- ---- attempts
 

@@ -1,6 +1,6 @@
 -- A run that stands is one that is laid along its own walks: so a drawing weighs what it weighs without the run, and what the
 -- run adds.
-use Rattle.std.proofs.Common.{◌≡◌, refl, sym, ◌∙◌, ap, subst, ℕ, suc, ◌+◌, ◌<◌, Bool, true, false, cond, List, [], ◌∷◌, length, get_or, set, Option, Some, None, ◌⊎◌, inl, inr, arith, length-set, get_or-set_same, get_or-set_other}
+use Rattle.std.proofs.Common.{◌≡◌, refl, sym, ◌∙◌, ap, subst, ℕ, suc, ◌+◌, ◌<◌, true, false, cond, List, [], ◌∷◌, length, get_or, set, Option, Some, None, ◌⊎◌, inl, inr, arith, length-set, get_or-set_same, get_or-set_other}
 use Rattle.std.proofs.lemmas.Bool.{cases_eq, eq-eqb, ne_eqb}
 use Rattle.std.proofs.lemmas.List.{set-get_or}
 use Rattle.std.specs.Prelude.{unwrap_or}
@@ -14,7 +14,6 @@ use Rattle.line_chains.specs.Chains.{end_of, ends_of}
 use Rattle.octi_grid.specs.declared.point.GridPoint.{GridPoint}
 use Rattle.octi_grid.specs.Walks.{end_point, PlainWalk}
 use Rattle.octi_grid.proofs.Members.{In}
-use Rattle.grid_board.specs.declared.bounds.Bounds.{Bounds}
 use Rattle.segment_router.proofs.SettledLemmas.{nowhere}
 use Rattle.drawing_weights.specs.Scales.{Scale}
 use Rattle.run_laying.specs.Attempts.{inner_nodes}
@@ -61,11 +60,12 @@ pub record IsBut (old : Sketch) (ts : List ChainStep) (k : Sketch) : Type 0 wher
 
 same_but : (old k : Sketch) → IsBut old [] k → k ≡ old
 same_but old k but =
-    ap (λ (b : Bounds). (let j : Sketch = record { bounds = b; points = k.points; stand = k.stand; walks = k.walks } in j)) but.bounds
-    ∙ ap (λ (ps : List GridPoint). (let j : Sketch = record { bounds = old.bounds; points = ps; stand = k.stand; walks = k.walks } in j)) but.points
-    ∙ ap (λ (fs : List Bool). (let j : Sketch = record { bounds = old.bounds; points = old.points; stand = fs; walks = k.walks } in j)) (same_list false k.stand old.stand but.stand_each (λ m h. but.stand m (λ q i e. i)))
-    ∙ ap (λ (os : List (Option PlainWalk)). (let j : Sketch = record { bounds = old.bounds; points = old.points; stand = old.stand; walks = os } in j))
-    (same_list None k.walks old.walks but.walks_each (λ s h. but.walks (record { 0 = s }) (λ q i e. i)))
+    λ i. record {
+      bounds = but.bounds i;
+      points = but.points i;
+      stand = same_list false k.stand old.stand but.stand_each (λ m h. but.stand m (λ q j e. j)) i;
+      walks = same_list None k.walks old.walks but.walks_each (λ s h. but.walks (record { 0 = s }) (λ q j e. j)) i;
+    }
 
 module _ (graph : GraphParts) (fit : IsConsistent graph) (old : Sketch) (h : IsLegalSketch graph old) (n : NodeId) (t : ChainStep) (v : PlainWalk) (is : walk_in old t.seg ≡ Some v) (below : t.seg.0 < length graph.ends) (leads : LeadsTo graph n t) where
   abbrev w : PlainWalk

@@ -42,9 +42,11 @@ use Rattle.drawing_search.specs.Gains.{pairs_at, run_gain, steps_gain, turns_by}
 use Rattle.drawing_search.specs.Least.{allowed_dirs, free_nodes, least_beside, least_by, never, ports_for, straight_way, turn_price, turns_at_least}
 use Rattle.drawing_search.proofs.Bounded.{free_limit, priced_limit}
 use Rattle.drawing_search.proofs.Gained.{end_turns, from_turns}
-use Rattle.drawing_search.proofs.PricedRuns.{first_leads, have_pieces, leads_apart, priced_run, HavePieces, IsPrice}
+use Rattle.drawing_search.proofs.PricedRuns.{have_pieces, leads_apart, priced_run, HavePieces, IsPrice}
 use Rattle.drawing_search.proofs.StraightWays.{walk_turns, way_small}
 use Rattle.drawing_search.proofs.TurnSums.{cost_parts, steps_cost}
+use Rattle.drawing_search.proofs.Takable.{in_mapped}
+use Rattle.run_laying.proofs.Kept.{first_leads}
 
 -- ---- the ports of a run that is laid are those of its walk
 
@@ -83,11 +85,6 @@ fold_each : (low : ℕ) (xs : List ℕ) (x : ℕ) → In x xs → fold min low x
 fold_each low [] x i = absurd i
 fold_each low (y ∷ ys) x (inl e) = omega (arith, e, fold_least (min low y) ys)
 fold_each low (y ∷ ys) x (inr i) = fold_each (min low y) ys x i
-
-in_mapped : {X : Type 0} (f : X → ℕ) (xs : List X) (x : X) → In x xs → In (f x) (map f xs)
-in_mapped f [] x i = absurd i
-in_mapped f (y ∷ ys) x (inl e) = inl (ap f e)
-in_mapped f (y ∷ ys) x (inr i) = inr (in_mapped f ys x i)
 
 kept_in : (test : Dir → Bool) (ds : List Dir) (d : Dir) → In d ds → test d ≡ true → In d (filter test ds)
 kept_in test [] d i e = absurd i

@@ -1,5 +1,5 @@
 -- Runs that stand may be taken off the board: first their walks, then the nodes between their ends.
-use Rattle.std.proofs.Common.{◌≡◌, refl, sym, ◌∙◌, ap, subst, ℕ, zero, suc, ◌+◌, ◌-◌, ◌<◌, ◌≤◌, true, false, List, [], ◌∷◌, length, drop, get_or, set, Contains, Option, Some, None, ◌⊎◌, inl, inr, arith, get_or-set_other}
+use Rattle.std.proofs.Common.{◌≡◌, refl, sym, ◌∙◌, ap, subst, ℕ, zero, suc, ◌+◌, ◌-◌, ◌<◌, ◌≤◌, true, false, List, [], ◌∷◌, length, drop, get_or, Contains, Some, None, ◌⊎◌, inl, inr, arith, get_or-set_other, take, map}
 use Rattle.std.proofs.lemmas.Bool.{cases_eq, cases_lt}
 use Rattle.std.proofs.lemmas.List.{get_or_past}
 use Rattle.map_base.specs.declared.ids.NodeId.{NodeId}
@@ -10,6 +10,7 @@ use Rattle.line_chains.specs.declared.chain.Chain.{Chain}
 use Rattle.line_chains.specs.declared.chain.ChainStep.{ChainStep}
 use Rattle.octi_grid.specs.Walks.{PlainWalk}
 use Rattle.octi_grid.proofs.Members.{In}
+pub use Rattle.segment_router.proofs.RouteLemmas.{in_map as from_map}
 use Rattle.run_laying.specs.Attempts.{inner_nodes}
 use Rattle.run_laying.specs.Laying.{Sketch}
 use Rattle.run_laying.specs.Runs.{AreOnce, AreSteps, IsRun}
@@ -17,13 +18,27 @@ use Rattle.run_laying.specs.Sketches.{is_standing, lifted, walk_in, with_walk_of
 use Rattle.run_laying.proofs.RunFacts.{contains_in, inner_of, inner_off, leads_to, once_first, IsOff}
 use Rattle.drawing_search.specs.Changes.{without_walks, AreApart, AreLiftable, IsLiftable, IsTakable}
 use Rattle.drawing_search.proofs.RunEnds.{inner_left}
-use Rattle.drawing_search.proofs.TakenOff.{lifted_legal, off_legal}
+use Rattle.drawing_search.proofs.TakenOff.{gone, lifted_legal, off_legal, still_gone}
 
 -- what is at a place of a list is in it
 pub in_from : {X : Type 0} (xs : List X) (x : X) → Contains xs x → In x xs
 in_from [] x c = absurd (omega (arith, c.1))
 in_from (y ∷ ys) x (zero, h, e) = inl (sym e)
 in_from (y ∷ ys) x (suc i, h, e) = inr (in_from ys x (i, omega (arith, h), e))
+
+-- what is in the front of a list is in it
+pub in_taken : {X : Type 0} (xs : List X) (i : ℕ) (x : X) → In x (take i xs) → In x xs
+in_taken [] zero x m = m
+in_taken [] (suc i) x m = m
+in_taken (y ∷ xs) zero x m = absurd m
+in_taken (y ∷ xs) (suc i) x (inl e) = inl e
+in_taken (y ∷ xs) (suc i) x (inr m) = inr (in_taken xs i x m)
+
+-- what is in a list of values
+pub in_mapped : {X Y : Type 0} (f : X → Y) (xs : List X) (x : X) → In x xs → In (f x) (map f xs)
+in_mapped f [] x i = absurd i
+in_mapped f (y ∷ ys) x (inl e) = inl (ap f e)
+in_mapped f (y ∷ ys) x (inr i) = inr (in_mapped f ys x i)
 
 -- ---- nodes
 
@@ -66,25 +81,13 @@ pub same_stand : (k : Sketch) (ts : List ChainStep) → (without_walks k ts).sta
 same_stand k [] = refl
 same_stand k (t ∷ ts) = same_stand (with_walk_of k t.seg None) ts
 
-gone : (ws : List (Option PlainWalk)) (i j : ℕ) → get_or ws j None ≡ None → get_or (set ws i None) j None ≡ None
-gone [] i j e = e
-gone (o ∷ ws) zero zero e = refl
-gone (o ∷ ws) zero (suc j) e = e
-gone (o ∷ ws) (suc i) zero e = e
-gone (o ∷ ws) (suc i) (suc j) e = gone ws i j e
-
-gone_here : (ws : List (Option PlainWalk)) (i : ℕ) → get_or (set ws i None) i None ≡ None
-gone_here [] i = refl
-gone_here (o ∷ ws) zero = refl
-gone_here (o ∷ ws) (suc i) = gone_here ws i
-
 pub still_none : (k : Sketch) (ts : List ChainStep) (s : SegId) → walk_in k s ≡ None → walk_in (without_walks k ts) s ≡ None
 still_none k [] s e = e
-still_none k (t ∷ ts) s e = still_none (with_walk_of k t.seg None) ts s (gone k.walks t.seg.0 s.0 e)
+still_none k (t ∷ ts) s e = still_none (with_walk_of k t.seg None) ts s (still_gone None k.walks t.seg.0 s.0 e)
 
 pub none_left : (k : Sketch) (ts : List ChainStep) (q : ChainStep) → In q ts → walk_in (without_walks k ts) q.seg ≡ None
 none_left k [] q m = absurd m
-none_left k (t ∷ ts) q (inl e) = still_none (with_walk_of k t.seg None) ts q.seg (subst (λ (p : ChainStep). walk_in (with_walk_of k t.seg None) p.seg ≡ None) (sym e) (gone_here k.walks t.seg.0))
+none_left k (t ∷ ts) q (inl e) = still_none (with_walk_of k t.seg None) ts q.seg (subst (λ (p : ChainStep). walk_in (with_walk_of k t.seg None) p.seg ≡ None) (sym e) (gone None k.walks t.seg.0))
 none_left k (t ∷ ts) q (inr m) = none_left (with_walk_of k t.seg None) ts q m
 
 pub same_walks_off : (k : Sketch) (ts : List ChainStep) (s : SegId) → IsOff ts s → walk_in (without_walks k ts) s ≡ walk_in k s

@@ -24,6 +24,19 @@ use Rattle.run_laying.specs.Sketches.{is_standing, lifted, point_of_node, walk_i
 use Rattle.run_laying.proofs.RunFacts.{end_below, in_round}
 use Rattle.run_laying.proofs.Shown.{in_walks}
 
+-- what is taken from a list is gone, and stays so
+pub gone : {X : Type 0} (d : X) (xs : List X) (i : ℕ) → get_or (set xs i d) i d ≡ d
+gone d [] i = refl
+gone d (x ∷ xs) zero = refl
+gone d (x ∷ xs) (suc i) = gone d xs i
+
+pub still_gone : {X : Type 0} (d : X) (xs : List X) (i j : ℕ) → get_or xs j d ≡ d → get_or (set xs i d) j d ≡ d
+still_gone d [] i j e = e
+still_gone d (x ∷ xs) zero zero e = refl
+still_gone d (x ∷ xs) zero (suc j) e = e
+still_gone d (x ∷ xs) (suc i) zero e = e
+still_gone d (x ∷ xs) (suc i) (suc j) e = still_gone d xs i j e
+
 -- ---- a walk
 
 -- some segment round a node has a walk
@@ -38,13 +51,8 @@ module _ (graph : GraphParts) (fit : IsConsistent graph) (k : Sketch) (h : IsLeg
   left_walk : (t : SegId) (v : PlainWalk) → walk_in off t ≡ Some v → (t.0 ≡ s.0 → ⊥) × (walk_in k t ≡ Some v)
   left_walk t v e = by_number (cases_eq t.0 s.0)
     where
-      gone : (ws : List (Option PlainWalk)) (i : ℕ) → get_or (set ws i None) i None ≡ None
-      gone [] i = refl
-      gone (o ∷ ws) zero = refl
-      gone (o ∷ ws) (suc i) = gone ws i
-
       by_number : (t.0 ≡ s.0) ⊎ (t.0 ≡ s.0 → ⊥) → (t.0 ≡ s.0 → ⊥) × (walk_in k t ≡ Some v)
-      by_number (inl i) = let none : None ≡ Some v = sym (gone k.walks s.0) ∙ ap (λ j. get_or (set k.walks s.0 None) j None) (sym i) ∙ e in cc
+      by_number (inl i) = let none : None ≡ Some v = sym (gone None k.walks s.0) ∙ ap (λ j. get_or (set k.walks s.0 None) j None) (sym i) ∙ e in cc
       by_number (inr f) = (f, sym (get_or-set_other k.walks s.0 t.0 None None f) ∙ e)
 
   still_walk : (t : SegId) (v : PlainWalk) → (t.0 ≡ s.0 → ⊥) → walk_in k t ≡ Some v → walk_in off t ≡ Some v

@@ -1,5 +1,5 @@
 -- What steps cost and turn, joined and walked back.
-use Rattle.std.proofs.Common.{◌≡◌, refl, sym, ◌∙◌, ap, ℕ, ◌+◌, ◌-◌, ◌%◌, ◌≤◌, List, [], ◌∷◌, ◌++◌, map, reverse, min, Option, Some, None, slice_get, arith}
+use Rattle.std.proofs.Common.{◌≡◌, refl, sym, ◌∙◌, ap, ℕ, ◌+◌, ◌-◌, ◌%◌, ◌≤◌, List, [], ◌∷◌, ◌++◌, map, reverse, min, Option, Some, None, slice_get, arith, ap₂}
 use Rattle.std.proofs.lemmas.List.{map-append, reverse-append}
 use Rattle.octi_grid.specs.declared.dir.Dir.{Dir}
 use Rattle.octi_grid.specs.declared.dir.Dir.TheVariants as dir
@@ -10,6 +10,8 @@ use Rattle.octi_grid.proofs.CostLemmas.{number_small, turn_none}
 use Rattle.drawing_weights.specs.Weights.{turns_of}
 use Rattle.run_laying.proofs.Reversed.{turned}
 use Rattle.walk_search.proofs.TurnsDue.{turn_shorter}
+use Rattle.octi_grid.proofs.RunLemmas.{last_of-push}
+use Rattle.walk_search.proofs.Crossing.{turn_back}
 
 -- the steps alone, without turns
 abbrev pub steps_cost : List Dir → ℕ
@@ -66,18 +68,10 @@ angle_back a b h k = omega arith
 
 clockwise_back : (d e : Dir) → clockwise_from (reverse_of d) (reverse_of e) ≡ clockwise_from d e
 clockwise_back d e =
-    ap (λ n. (n + 8 - number_of (reverse_of d)) % 8) (reverse_number e)
-    ∙ ap (λ n. ((number_of e + 4) % 8 + 8 - n) % 8) (reverse_number d)
-    ∙ angle_back (number_of d) (number_of e) (number_small d) (number_small e)
-
-min_turned : (a b : ℕ) → min a b ≡ min b a
-min_turned a b = omega arith
+    ap₂ (λ m n. (m + 8 - n) % 8) (reverse_number e) (reverse_number d) ∙ angle_back (number_of d) (number_of e) (number_small d) (number_small e)
 
 pub turn_same_back : (d e : Dir) → turn_between (reverse_of d) (reverse_of e) ≡ turn_between d e
-turn_same_back d e = ap (λ n. min n (clockwise_from (reverse_of e) (reverse_of d))) (clockwise_back d e) ∙ ap (λ n. min (clockwise_from d e) n) (clockwise_back e d)
-
-pub turn_turned : (d e : Dir) → turn_between d e ≡ turn_between e d
-turn_turned d e = min_turned (clockwise_from d e) (clockwise_from e d)
+turn_same_back d e = ap₂ (λ m n. min m n) (clockwise_back d e) (clockwise_back e d)
 
 turned_cons : (d : Dir) (ds : List Dir) → turned (d ∷ ds) ≡ turned ds ++ reverse_of d ∷ []
 turned_cons d ds = ap (map reverse_of) (reverse-append (d ∷ []) ds) ∙ map-append reverse_of (reverse ds) (d ∷ [])
@@ -89,11 +83,6 @@ steps_back (d ∷ ds) =
     let joined = ap steps_cost (turned_cons d ds) ∙ steps_append (turned ds) (reverse_of d ∷ []) in
     omega (arith, rest, joined, step_back_cost d)
 
-last_push : (ds : List Dir) (e : Dir) → last_of (ds ++ e ∷ []) ≡ Some e
-last_push [] e = refl
-last_push (d ∷ []) e = refl
-last_push (d ∷ f ∷ ds) e = last_push (f ∷ ds) e
-
 pub turns_back : (ds : List Dir) → turns_of (turned ds) ≡ turns_of ds
 turns_back [] = refl
 turns_back (d ∷ []) = refl
@@ -101,8 +90,8 @@ turns_back (d ∷ e ∷ ds) =
     let rest = turns_back (e ∷ ds) in
     let joined = ap turns_of (turned_cons d (e ∷ ds)) ∙ turns_append (turned (e ∷ ds)) (reverse_of d ∷ []) in
     let last : turn_over_cut (last_of (turned (e ∷ ds))) (Some (reverse_of d)) ≡ turn_between (reverse_of e) (reverse_of d) =
-    ap (λ (v : List Dir). turn_over_cut (last_of v) (Some (reverse_of d))) (turned_cons e ds) ∙ ap (λ (o : Option Dir). turn_over_cut o (Some (reverse_of d))) (last_push (turned ds) (reverse_of e)) in
-    omega (arith, rest, joined, last, turn_same_back e d, turn_turned d e)
+    ap (λ (v : List Dir). turn_over_cut (last_of v) (Some (reverse_of d))) (turned_cons e ds) ∙ ap (λ (o : Option Dir). turn_over_cut o (Some (reverse_of d))) (last_of-push (turned ds) (reverse_of e)) in
+    omega (arith, rest, joined, last, turn_same_back e d, turn_back d e)
 
 -- ---- a way that turns less than from its first direction to its last one there is none
 

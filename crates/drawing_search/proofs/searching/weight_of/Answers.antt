@@ -1,14 +1,9 @@
-use Rattle.std.proofs.Common.{◌≡◌, ℕ, ◌+◌, ◌∷◌, ◌++◌, [], ap, ◌∙◌, length, arith}
-use Rattle.std.proofs.lemmas.List.Sums.{sum_by_push}
+use Rattle.std.proofs.Common.{◌≡◌, ap, length, arith}
 use Rattle.std.specs.List.{range_with_len, sum_by}
 use Rattle.drawing_weights.specs.Scales.{scale_of}
 use Rattle.drawing_search.specs.Gains.{node_weight_in, segment_weight}
-use Rattle.drawing_search.proofs.Ranges.{range_more}
 use Rattle.drawing_search.proofs.searching.weight_of.Goals as goal
-
--- a number more in a range
-sum_more : (f : ℕ → ℕ) (n : ℕ) → sum_by f (range_with_len 0 (n + 1)) ≡ sum_by f (range_with_len 0 n) + f n
-sum_more f n = let same : 0 + n ≡ n = omega arith in ap (sum_by f) (range_more 0 n ∙ ap (λ k. range_with_len 0 n ++ k ∷ []) same) ∙ sum_by_push f (range_with_len 0 n) n
+use Rattle.drawing_weights.proofs.Sums.{sum_more}
 
 pub overflow_add-total : goal.overflow_add-total
 overflow_add-total c = omega (arith, c.loop-s.invariant.small, c.walk_at-total.ensures.small, c.loop-s-test.true, c.segs-s-end.ensures, c.requires.field.graph.few_segments)
