@@ -1,27 +1,124 @@
 -- What an attempt knows of nodes, runs and bounds, as it reads them.
-use Rattle.std.proofs.Common.{◌≡◌, ◌∙◌, sym, ap, subst, ℕ, ◌+◌, ◌<◌, ◌≤◌, true, false, min, List, length, fold, map, Option, Some, None, arith}
+use Rattle.std.proofs.Common.{◌≡◌, ◌∙◌, sym, ap, subst, ℕ, ◌+◌, ◌<◌, ◌≤◌, true, false, min, List, length, fold, map, Option, Some, None, arith, get_or}
 use Rattle.std.specs.List.{sum_by}
-use Rattle.std.specs.Prelude.{All}
+use Rattle.std.specs.Prelude.{All, ◌&&◌, not}
+use Rattle.std.proofs.lemmas.List.{length-map}
+use Rattle.std.proofs.lemmas.Bool.{and_parts}
 use Rattle.map_base.specs.declared.ids.NodeId.{NodeId}
 use Rattle.graph_core.specs.declared.parts.GraphParts.{GraphParts}
 use Rattle.graph_core.specs.Consistent.{IsConsistent}
 use Rattle.line_chains.specs.declared.chain.Chain.{Chain}
 use Rattle.line_chains.specs.Chains.{end_of}
 use Rattle.octi_grid.specs.declared.point.GridPoint.{GridPoint}
+use Rattle.octi_grid.specs.Ways.{doubled}
+use Rattle.octi_grid.proofs.Members.{all_at, In}
 use Rattle.grid_board.specs.Points.{is_near}
+use Rattle.grid_board.specs.declared.bounds.Bounds.{Bounds}
+use Rattle.grid_board.specs.Boards.{contains}
+use Rattle.segment_router.proofs.Places.{all_in, in_at}
 use Rattle.drawing_weights.specs.Scales.{apart_weight_by, Scale}
-use Rattle.run_laying.specs.Laying.{Sketch}
+use Rattle.run_laying.specs.Laying.{Sketch, board_of}
 use Rattle.run_laying.specs.Sketches.{lifted as lifted_off, point_of_node}
 use Rattle.drawing_search.specs.declared.group.Group.{Group}
 use Rattle.drawing_search.specs.declared.group.Vector.{Vector}
 use Rattle.drawing_search.specs.declared.least.LeastTurns.{LeastTurns}
 use Rattle.drawing_search.specs.declared.lifting.Lifted.{Lifted}
 use Rattle.drawing_search.specs.Bounds.{gains_at_least, HaveBounds, IsSmallLeast}
-use Rattle.drawing_search.specs.Changes.{all_moved, has_room, moved_by, point_after, stood_at, AreLayable, AreLiftable, CanStandEach}
+use Rattle.drawing_search.specs.Changes.{all_moved, has_room, moved_by, point_after, stood_at, AreLayable, AreLiftable, CanStandEach, is_open}
 use Rattle.drawing_search.specs.Gains.{first_point, sketch_weight}
 use Rattle.drawing_search.specs.Lifting.{IsAttempted, IsOff}
 use Rattle.drawing_search.specs.Tries.{AreAllLaid}
-use Rattle.drawing_search.proofs.Offs.{attempt_ahead, attempt_base, attempt_bounds, attempt_can, attempt_failed, attempt_heavy, attempt_layable, attempt_liftable, attempt_made, attempt_no_room, moved_few, moved_near, moved_nodes, moved_there, runs_from, runs_to}
+use Rattle.drawing_search.proofs.AttemptCases.{can_move, case_failed, case_heavy, case_made, case_no_room, layable_moved, least_moved, moved_may_lift, ready_moved, weight_moved}
+use Rattle.drawing_search.proofs.FewSteps.{apart_few}
+use Rattle.drawing_search.proofs.LayingAll.{least_of}
+use Rattle.drawing_search.proofs.Nearby.{on_board_near, stands_near}
+use Rattle.drawing_search.proofs.RunReads.{run_from, run_to}
+use Rattle.drawing_search.proofs.Takable.{from_map}
+
+all_mapped : {X Y : Type 0} (P : Y → Type 0) (f : X → Y) (xs : List X) → ((x : X) → In x xs → P (f x)) → All P (map f xs)
+all_mapped P f xs h = λ i d below. let found = from_map f xs (get_or (map f xs) i d) (in_at (map f xs) i d below) in subst P (sym found.2) (h found.0 found.1)
+
+module _ (graph : GraphParts) (fit : IsConsistent graph) (scale : Scale) (first : List GridPoint) (g : Group) (l : Lifted) (v : Vector) (old : Sketch) (weight : ℕ) (off : IsOff scale graph first g l v old weight) where
+  below : (n : NodeId) → In n g.nodes → n.0 < length graph.kinds
+  below n i = all_in (λ (m : NodeId). m.0 < length graph.kinds) g.nodes n off.fitting.nodes i
+
+  -- nodes that move: where they stood, and where they come to
+  pub moved_near : All (λ (m : NodeId × GridPoint). is_near 2000 m.1 ≡ true) l.moved.items
+  moved_near =
+      subst (All (λ (m : NodeId × GridPoint). is_near 2000 m.1 ≡ true)) (sym off.lifted.moved)
+      (all_mapped (λ (m : NodeId × GridPoint). is_near 2000 m.1 ≡ true) (λ (n : NodeId). (n, point_of_node off.whole n.0)) g.nodes
+      (λ n i. stands_near graph off.whole off.settled.legal n.0 (off.settled.whole.nodes n.0 (omega (arith, below n i, off.settled.legal.stand_each)))))
+
+  pub moved_nodes : All (λ (m : NodeId × GridPoint). m.0.0 < length graph.kinds) l.moved.items
+  moved_nodes =
+      subst (All (λ (m : NodeId × GridPoint). m.0.0 < length graph.kinds)) (sym off.lifted.moved) (all_mapped (λ (m : NodeId × GridPoint). m.0.0 < length graph.kinds) (λ (n : NodeId). (n, point_of_node off.whole n.0)) g.nodes below)
+
+  pub moved_few : length l.moved.items ≤ 20000
+  moved_few =
+      let few = apart_few (length graph.kinds) g.nodes off.apart below in
+      omega (arith, few, fit.few_nodes, ap length off.lifted.moved, length-map {B = NodeId × GridPoint} g.nodes (λ (n : NodeId). (n, point_of_node off.whole n.0)))
+
+  pub moved_there : has_room old v l.moved.items ≡ true → All (λ (m : NodeId × GridPoint). is_near 2000 (moved_by v m.1) ≡ true) l.moved.items
+  moved_there room = λ i d h.
+      let p = moved_by v (get_or l.moved.items i d).1 in
+      let open_there : is_open old p ≡ true = all_at (λ (m : NodeId × GridPoint). is_open old (moved_by v m.1)) l.moved.items (get_or l.moved.items i d) room (in_at l.moved.items i d h) in
+      on_board_near off.whole.bounds off.settled.legal.bounds p
+      (ap (λ (b : Bounds). contains b p) (sym off.lifted.off.bounds) ∙ (and_parts (contains old.bounds p) (not ((board_of old).is_node p) && not ((board_of old).is_taken (doubled p))) open_there).0)
+
+  -- the ends of runs
+  pub runs_from : All (λ (c : Chain). c.from.0 < length old.points) g.runs
+  runs_from = λ i d h. omega (arith, run_from graph fit (get_or g.runs i d) (off.fitting.runs i d h), off.lifted.off.points_each, off.settled.legal.points_each)
+
+  pub runs_to : All (λ (c : Chain). (end_of c).0 < length old.points) g.runs
+  runs_to = λ i d h. omega (arith, run_to graph fit (get_or g.runs i d) (off.fitting.runs i d h), off.lifted.off.points_each, off.settled.legal.points_each)
+
+  -- ---- what comes of an attempt
+
+  pub attempt_no_room : has_room old v l.moved.items ≡ false → IsAttempted scale graph first g l v old weight old None
+  attempt_no_room none = λ whole s fits lifted. case_no_room graph fit scale first g v whole old weight l off.apart s fits lifted none
+
+  module _ (room : has_room old v l.moved.items ≡ true) where
+    -- its runs may be laid where its nodes have moved
+    pub attempt_can : CanStandEach old (all_moved v l.moved.items)
+    attempt_can = can_move graph fit scale first g v off.whole old weight l off.apart off.settled off.fitting off.lifted room
+
+    pub attempt_layable : AreLayable graph (fold stood_at old (all_moved v l.moved.items)) g.runs
+    attempt_layable = layable_moved graph fit scale first g v off.whole old weight l off.apart off.settled off.fitting off.lifted room
+
+    pub attempt_bounds : HaveBounds scale graph (fold stood_at old (all_moved v l.moved.items)) g.runs l.least.items
+    attempt_bounds = (ready_moved graph fit scale first g v off.whole old weight l off.apart off.settled off.fitting off.lifted room).have
+
+    module _ (base ahead : ℕ) (base_is : base ≡ l.rest + sum_by (λ (m : NodeId × GridPoint). apart_weight_by scale m.0.0 (first_point first m.0.0) m.1) (all_moved v l.moved.items))
+        (ahead_is : ahead ≡ min 18446744073709551615 (gains_at_least (point_after old v l.moved.items) g.runs l.least.items)) where
+      pub attempt_base : base ≡ sketch_weight scale graph first (fold stood_at old (all_moved v l.moved.items))
+      attempt_base = base_is ∙ sym (weight_moved graph fit scale first g v off.whole old weight l off.apart off.settled off.fitting off.lifted room)
+
+      least_there : gains_at_least (point_after old v l.moved.items) g.runs l.least.items ≡ least_of (fold stood_at old (all_moved v l.moved.items)) g.runs l.least.items
+      least_there = least_moved graph fit scale first g v off.whole old weight l off.apart off.settled off.fitting off.lifted room
+
+      -- the runs add too much
+      pub attempt_heavy : weight ≤ min 18446744073709551615 (base + ahead) → IsAttempted scale graph first g l v old weight old None
+      attempt_heavy heavy =
+          let few = off.settled.small in
+          let same = attempt_base in
+          let there = least_there in
+          λ whole s fits lifted. case_heavy graph fit scale first g v whole old weight l off.apart s fits lifted room (omega (arith, heavy, few, same, ahead_is, there))
+
+      -- or not
+      pub attempt_ahead : min 18446744073709551615 (base + ahead) < weight → (ahead ≡ gains_at_least (λ (n : NodeId). point_of_node (fold stood_at old (all_moved v l.moved.items)) n.0) g.runs l.least.items) × (base + ahead < weight)
+      attempt_ahead less = let few = off.settled.small in let there = least_there in (omega (arith, less, few, ahead_is, there), omega (arith, less, few))
+
+    pub attempt_made : (new : Sketch) (less : ℕ) → AreAllLaid scale graph first weight g.runs (fold stood_at old (all_moved v l.moved.items)) new (Some less) → IsAttempted scale graph first g l v old weight new (Some less)
+    attempt_made new less laid = λ whole s fits lifted. case_made graph fit scale first g v whole old weight l off.apart s fits lifted room new less laid
+
+    module _ (new : Sketch) (laid : AreAllLaid scale graph first weight g.runs (fold stood_at old (all_moved v l.moved.items)) new None) where
+      pub attempt_liftable : AreLiftable graph new (map (λ (m : NodeId × GridPoint). m.0) l.moved.items)
+      attempt_liftable = moved_may_lift graph fit scale first g v off.whole old weight l off.apart off.settled off.fitting off.lifted room new laid
+
+      pub attempt_failed : (fin : Sketch) → fin ≡ fold lifted_off new (map (λ (m : NodeId × GridPoint). m.0) l.moved.items) → IsAttempted scale graph first g l v old weight fin None
+      attempt_failed fin is = λ whole s fits lifted. case_failed graph fit scale first g v whole old weight l off.apart s fits lifted room new laid fin is
+
+-- ---- what an attempt knows of nodes, runs and bounds, as it reads them
 
 -- what nodes that move, runs and their bounds are before anything is put on the board
 pub record CanWeigh (graph : GraphParts) (k : Sketch) (ms : List (NodeId × GridPoint)) (cs : List Chain) (ls : List LeastTurns) : Type 0 where

@@ -1,19 +1,14 @@
 -- how the board of a sketch changes, and what it is when something is taken off
 mod BoardsOf
 mod TakenOff
-mod OnSketches
 -- walks step by step, and runs that are laid along a walk that is cut
 mod Steps
 mod Ranges
-mod Farther
-mod WalksOff
 mod RunEnds
 pub mod RunReads
-mod AskedWalks
 pub mod FewSteps
 mod Laid
 mod LaySteps
-mod EvenPlaces
 mod RunSteps
 -- runs and nodes that are taken off and put back; drawings that differ where nodes lie that don't stand
 pub mod Takable
@@ -22,7 +17,6 @@ mod PutBack
 mod TakenBack
 mod Alikes
 -- pairs of segments that lines join, and what a run adds to the weight of a drawing
-mod JoinedPairs
 mod FieldFacts
 pub mod Growing
 pub mod Gained
@@ -34,10 +28,8 @@ mod LiftedGroups
 mod TurnSums
 mod StraightWays
 mod PricedRuns
-mod Bounded
 mod RunBounds
 mod LeastTurning
-mod LeastSteps
 mod Spaced
 pub mod LaidAll
 mod LaidBack
@@ -50,11 +42,8 @@ mod OnWalks
 mod Moving
 mod Attempting
 mod AttemptCases
-mod Offs
 mod AttemptReads
 mod TriedGroups
-mod GroupOf
-mod Passes
 mod Searches
 mod Beginning
 mod Built

@@ -2,10 +2,11 @@
 -- more than it may.
 use Rattle.std.proofs.Common.{◌≡◌, refl, sym, ◌∙◌, ap, subst, ℕ, ◌+◌, ◌-◌, ◌*◌, ◌/◌, ◌<◌, ◌≤◌, Bool, true, false, cond, eqb, nat_lt, ◌||◌, min, List, [], ◌∷◌, length, filter, fold, map, Some, option_map, ◌⊎◌, inl, inr, arith}
 use Rattle.std.proofs.Math.Nat.{mul-le-mul_left}
-use Rattle.std.proofs.lemmas.Bool.{cases_Bool, eqb-true}
+use Rattle.std.proofs.lemmas.Bool.{cases_Bool, eqb-true, cases_lt}
 use Rattle.std.proofs.lemmas.Bool.Decides.{nat_tests}
 use Rattle.std.specs.Int.{bit_at}
 use Rattle.std.specs.Prelude.{slice_index}
+use Rattle.std.proofs.lemmas.Nat.{le-div}
 use Rattle.map_base.specs.declared.ids.NodeId.{NodeId}
 use Rattle.map_base.specs.declared.ids.SegId.{SegId}
 use Rattle.graph_core.specs.declared.parts.GraphParts.{GraphParts}
@@ -14,14 +15,13 @@ use Rattle.line_chains.specs.declared.chain.Chain.{Chain}
 use Rattle.line_chains.specs.declared.chain.ChainStep.{ChainStep}
 use Rattle.line_chains.specs.Chains.{end_after, end_of, ends_of, last_seg}
 use Rattle.octi_grid.specs.declared.dir.Dir.{Dir}
-use Rattle.octi_grid.specs.declared.dir.Dir.TheVariants as dir
 use Rattle.octi_grid.specs.declared.point.GridPoint.{GridPoint}
 use Rattle.octi_grid.specs.Ways.{number_of, reverse_of}
 use Rattle.octi_grid.specs.Walks.{cost_of, end_point, end_port, last_of, start_port, PlainWalk}
 use Rattle.octi_grid.proofs.Members.{in_flat_map, In}
 use Rattle.walk_search.specs.Reaching.{reach_of}
-use Rattle.walk_search.proofs.LeastReach.{reach_none}
 use Rattle.walk_search.specs.Routes.{allows, directions}
+use Rattle.walk_search.proofs.LeastReach.{reach_none}
 use Rattle.segment_router.specs.Routes.{port_at_node, port_by}
 use Rattle.drawing_weights.specs.Scales.{Scale}
 use Rattle.drawing_weights.specs.Weights.{turns_of}
@@ -36,17 +36,42 @@ use Rattle.run_laying.proofs.LaidRuns.{IsCut}
 use Rattle.run_laying.proofs.Reversed.{twice}
 use Rattle.run_laying.proofs.RunFacts.{step_of}
 use Rattle.run_laying.proofs.Turned.{port_from, port_to, turned_of}
+use Rattle.run_laying.proofs.Kept.{first_leads}
 use Rattle.drawing_search.specs.declared.least.LeastTurns.{LeastTurns}
 use Rattle.drawing_search.specs.Bounds.{IsBoundOf}
 use Rattle.drawing_search.specs.Gains.{pairs_at, run_gain, steps_gain, turns_by}
 use Rattle.drawing_search.specs.Least.{allowed_dirs, free_nodes, least_beside, least_by, never, ports_for, straight_way, turn_price, turns_at_least}
-use Rattle.drawing_search.proofs.Bounded.{free_limit, priced_limit}
 use Rattle.drawing_search.proofs.Gained.{end_turns, from_turns}
 use Rattle.drawing_search.proofs.PricedRuns.{have_pieces, leads_apart, priced_run, HavePieces, IsPrice}
 use Rattle.drawing_search.proofs.StraightWays.{walk_turns, way_small}
 use Rattle.drawing_search.proofs.TurnSums.{cost_parts, steps_cost}
 use Rattle.drawing_search.proofs.Takable.{in_mapped}
-use Rattle.run_laying.proofs.Kept.{first_leads}
+use Rattle.octi_grid.specs.declared.dir.Dir.TheVariants as dir
+
+share : (k less overs price by : ℕ) → 0 < price → by + less ≡ overs + price * (k + less) → k * price ≤ by
+share k less overs price by some e = omega (arith, mul-le-mul_left less some)
+
+-- where each turn has a price
+pub priced_limit : (steps turns overs price by may gain : ℕ) → 0 < price → by ≤ overs + price * turns → steps + (overs + price * turns) ≤ gain → gain ≤ may → steps + turns ≤ may - by + by / price
+priced_limit steps turns overs price by may gain some low adds within = by_order (cases_lt turns less)
+  where
+    less : ℕ
+    less = overs + price * turns - by
+
+    by_order : (turns < less) ⊎ (less ≤ turns) → steps + turns ≤ may - by + by / price
+    by_order (inl few) = omega (arith, low, adds, within, few)
+    by_order (inr enough) =
+        let split : turns ≡ turns - less + less = omega (arith, enough) in
+        let all : by + less ≡ overs + price * (turns - less + less) = omega (arith, low, ap (λ n. price * n) split) in
+        let most : turns - less ≤ by / price = le-div (turns - less) by price some (share (turns - less) less overs price by some all) in
+        omega (arith, low, adds, within, most)
+
+-- where turns may lie at nodes at which they weigh nothing, at most so many of them
+pub free_limit : (steps turns overs free by may gain : ℕ) → by ≤ overs → steps + overs + turns ≤ gain + free → gain ≤ may → steps + turns ≤ may - by + free
+free_limit steps turns overs free by may gain low adds within = omega arith
+
+-- ---- the bounds of runs are bounds: a run that is laid adds no less, and its walk costs no more than the limit
+-- where it adds no more than it may
 
 -- ---- the ports of a run that is laid are those of its walk
 

@@ -5,7 +5,7 @@ use Rattle.octi_grid.specs.declared.point.GridPoint.{GridPoint}
 use Rattle.grid_board.specs.Points.{is_near}
 use Rattle.drawing_weights.specs.Scales.{apart_weight_by, scale_of}
 use Rattle.drawing_search.specs.Gains.{first_point}
-use Rattle.drawing_search.proofs.GroupOf.{group_is}
+use Rattle.drawing_search.proofs.TriedGroups.{group_is}
 use Rattle.drawing_search.proofs.LiftedGroups.{group_lifted, least_asks, least_begin, least_more, node_fits, node_lifted, node_ready, nodes_begin, run_fits, run_lifted, run_takable, runs_begin}
 use Rattle.drawing_search.proofs.Nearby.{takable_stands}
 use Rattle.drawing_search.proofs.lifting.lift.Goals as goal

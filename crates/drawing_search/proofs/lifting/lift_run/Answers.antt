@@ -1,4 +1,4 @@
-use Rattle.std.proofs.Common.{◌≡◌, ℕ, ◌+◌, ◌<◌, List, [], ◌∷◌, ◌++◌, pos, length, map, fold, get_or, drop, append_assoc, append-nil, Option, Some, None, option_map, sym, ap, ap₂, subst, ◌∙◌}
+use Rattle.std.proofs.Common.{◌≡◌, ℕ, ◌+◌, ◌<◌, List, [], ◌∷◌, ◌++◌, pos, length, map, fold, get_or, drop, append_assoc, append-nil, Option, Some, None, option_map, sym, ap, ap₂, subst, ◌∙◌, refl, zero, suc, inl, inr, arith, get_or-set_other}
 use Rattle.std.proofs.lemmas.List.{at_drop_all, at_drop_more}
 use Rattle.std.specs.List.{cons_option}
 use Rattle.std.specs.Prelude.{OnOk}
@@ -18,9 +18,24 @@ use Rattle.drawing_search.specs.Gains.{AreOnGraph}
 use Rattle.drawing_search.specs.Lifting.{points_along, walks_along}
 use Rattle.drawing_search.proofs.RunReads.{run_on_graph}
 use Rattle.drawing_search.proofs.TakenOff.{off_legal}
-use Rattle.drawing_search.proofs.WalksOff.{once_rest, walks_off}
 use Rattle.drawing_search.proofs.lifting.lift_run.Goals.{in-Some+in_ok-push, in_default}
+use Rattle.run_laying.proofs.RunFacts.{once_first, IsOff}
 use Rattle.drawing_search.proofs.lifting.lift_run.Goals as goal
+
+-- steps over other segments keep theirs
+walks_off : (k : Sketch) (s : SegId) (ts : List ChainStep) → IsOff ts s → walks_along (with_walk_of k s None) ts ≡ walks_along k ts
+walks_off k s [] off = refl
+walks_off k s (t ∷ ts) off =
+    ap₂ (λ (o : Option PlainWalk) (rest : List (SegId × PlainWalk)). cons_option (option_map (λ (w : PlainWalk). (t.seg, w)) o) rest) (get_or-set_other k.walks s.0 t.seg.0 None None (off t (inl refl)))
+    (walks_off k s ts (λ q i e. off q (inr i) e))
+
+-- and those that follow a step go over others
+once_rest : (ts : List ChainStep) (i : ℕ) (d : ChainStep) → AreOnce ts → i < length ts → IsOff (drop (i + 1) ts) (get_or ts i d).seg
+once_rest [] i d once h = absurd (omega (arith, h))
+once_rest (t ∷ ts) zero d once h = once_first t ts once
+once_rest (t ∷ ts) (suc i) d once h =
+    let next : suc i + 1 ≡ suc (i + 1) = omega arith in
+    subst (λ k. IsOff (drop k (t ∷ ts)) (get_or ts i d).seg) (sym next) (once_rest ts i d once.1 (omega (arith, h)))
 
 abbrev none : ChainStep
 none = record { seg = record { 0 = 0 }; to = record { 0 = 0 } }

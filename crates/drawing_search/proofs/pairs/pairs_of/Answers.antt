@@ -4,7 +4,7 @@ use Rattle.map_base.specs.declared.ids.SegId.{SegId}
 use Rattle.graph_core.specs.declared.parts.Join.{Join}
 use Rattle.drawing_weights.specs.Scales.{joined_pairs}
 use Rattle.drawing_search.specs.Gains.{no_join}
-use Rattle.drawing_search.proofs.JoinedPairs.{pairs_more}
+use Rattle.drawing_search.proofs.FieldFacts.{pairs_more}
 use Rattle.drawing_search.proofs.pairs.pairs_of.Goals as goal
 
 pub loop-i-init : goal.loop-i-init

@@ -16,8 +16,7 @@ use Rattle.drawing_search.specs.Bounds.{overs_by, with_first_by}
 use Rattle.drawing_search.specs.Gains.{AreOnGraph}
 use Rattle.drawing_search.specs.Least.{free_nodes, turn_price}
 use Rattle.drawing_search.proofs.FewSteps.{run_few}
-use Rattle.drawing_search.proofs.LeastSteps.{least_of, never_small}
-use Rattle.drawing_search.proofs.LeastTurning.{least_of_all}
+use Rattle.drawing_search.proofs.LeastTurning.{least_of_all, least_of, never_small}
 use Rattle.drawing_search.proofs.RunReads.{no_step, reads_end, reads_first, reads_last, run_from, run_on_graph, run_to}
 use Rattle.drawing_search.proofs.gains.Field.least_turns.Goals as goal
 

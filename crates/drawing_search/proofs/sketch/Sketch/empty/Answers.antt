@@ -4,8 +4,7 @@ use Rattle.grid_board.proofs.OnBoards.{shown_bounds}
 use Rattle.segment_router.proofs.RoutingLemmas.{bounds_read}
 use Rattle.run_laying.specs.Laying.{board_of}
 use Rattle.drawing_search.specs.Shown.{bare_sketch}
-use Rattle.drawing_search.proofs.BoardsOf.{board_bare}
-use Rattle.drawing_search.proofs.OnSketches.{same_sketch}
+use Rattle.drawing_search.proofs.BoardsOf.{board_bare, same_sketch}
 use Rattle.drawing_search.proofs.sketch.Sketch.empty.Goals as goal
 
 pub invariant_of-result : goal.invariant_of-result

@@ -4,7 +4,7 @@ use Rattle.grid_board.specs.Boards.{contains, parts_of, without_node}
 use Rattle.run_laying.specs.Laying.{Sketch}
 use Rattle.run_laying.specs.Sketches.{point_of_node}
 use Rattle.run_laying.proofs.Shown.{stands_below}
-use Rattle.drawing_search.proofs.OnSketches.{inside_kept, lifted_shown, lifted_view}
+use Rattle.drawing_search.proofs.BoardsOf.{inside_kept, lifted_shown, lifted_view}
 use Rattle.drawing_search.proofs.sketch.Sketch.lift.Goals as goal
 
 pub point-at-requires : goal.point-at-requires

@@ -12,7 +12,7 @@ use Rattle.run_laying.specs.Sketches.{walk_in, with_walk_of}
 use Rattle.run_laying.proofs.RunFacts.{end_below}
 use Rattle.drawing_search.specs.Shown.{sketch_of}
 use Rattle.drawing_search.proofs.TakenOff.{has_walk_at}
-use Rattle.drawing_search.proofs.OnSketches.{all_inside_kept, bare_shown, bare_view, freed_board, freed_shown, freed_view}
+use Rattle.drawing_search.proofs.BoardsOf.{all_inside_kept, bare_shown, bare_view, freed_board, freed_shown, freed_view}
 use Rattle.drawing_search.proofs.sketch.Sketch.take_walk.Goals as goal
 
 abbrev no_ends : NodeId × NodeId
