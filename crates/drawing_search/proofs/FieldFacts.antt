@@ -24,7 +24,7 @@ use Rattle.drawing_search.specs.declared.gains.Field.{Field}
 use Rattle.drawing_search.specs.Gains.{pairs_at, step_gain, steps_gain, IsField, same_as_next}
 use Rattle.drawing_search.proofs.Takable.{in_from}
 
--- the pair of the one join is no later_upto than that of another
+-- the pair of the one join is no later than that of another
 abbrev IsUpTo : Join → Join → Type 0
 IsUpTo a b = (a.e.0 < b.e.0) ⊎ ((a.e.0 ≡ b.e.0) × (a.f.0 ≤ b.f.0))
 

@@ -94,36 +94,27 @@ lift_between-requires c =
     subst (λ (k : Sketch). AreLiftable c.args.field.graph.now k (inner_nodes ts)) (sym off)
     (subst (λ (v : List ChainStep). AreLiftable c.args.field.graph.now (without_walks c.args.sketch.now v) (inner_nodes v)) (sym c.as_slice-steps.ensures) c.requires.takable.inner)
 
-pub returns-clause-sketch : goal.returns-clause-sketch
-returns-clause-sketch c =
+pub returns : goal.returns
+returns c =
     let ts = c.as_slice-steps.result.now in
     let off : c.loop-step.sketch ≡ without_walks c.args.sketch.now ts = sym (at_drop_all (without_walks c.loop-step.sketch) ts c.loop-step.step-index c.loop-step-test.false) ∙ c.loop-step.invariant.rest in
-    subst (λ (x : Sketch). OnOk c.lift_between.result (c.lift_between.new.sketch ≡ x))
-    (ap (λ (k : Sketch). fold lifted_off k (inner_nodes ts)) off ∙ ap (λ (v : List ChainStep). fold lifted_off (without_walks c.args.sketch.now v) (inner_nodes v)) c.as_slice-steps.ensures) c.lift_between.ensures.sketch
-
-pub returns-clause-walks : goal.returns-clause-walks
-returns-clause-walks c =
-    let ts = c.as_slice-steps.result.now in
-    subst (λ (x : List (SegId × PlainWalk)). OnOk c.lift_between.result (c.lift_between.new.lifted.walks.items ≡ x))
-    (sym (append-nil c.loop-step.lifted.walks.items)
-    ∙ sym (at_drop_all (λ (v : List ChainStep). c.loop-step.lifted.walks.items ++ walks_along c.loop-step.sketch v) ts c.loop-step.step-index c.loop-step-test.false)
-    ∙ c.loop-step.invariant.walks
-    ∙ ap (λ (v : List ChainStep). c.args.lifted.now.walks.items ++ walks_along c.args.sketch.now v) c.as_slice-steps.ensures)
-    c.lift_between.ensures.walks
-
-pub returns-clause-inner : goal.returns-clause-inner
-returns-clause-inner c =
-    let ts = c.as_slice-steps.result.now in
-    subst (λ (x : List (NodeId × GridPoint)). OnOk c.lift_between.result (c.lift_between.new.lifted.inner.items ≡ x))
-    (ap₂ (λ (v : List (NodeId × GridPoint)) (ps : List GridPoint). v ++ map (λ (n : NodeId). (n, get_or ps n.0 (record { x = pos 0; y = pos 0 }))) (inner_nodes ts)) c.loop-step.invariant.inner c.loop-step.invariant.points
-    ∙ ap (λ (v : List ChainStep). c.args.lifted.now.inner.items ++ points_along c.args.sketch.now v) c.as_slice-steps.ensures)
-    c.lift_between.ensures.inner
-
-pub returns-clause-moved : goal.returns-clause-moved
-returns-clause-moved c = subst (λ (x : List (NodeId × GridPoint)). OnOk c.lift_between.result (c.lift_between.new.lifted.moved.items ≡ x)) c.loop-step.invariant.moved c.lift_between.ensures.moved
-
-pub returns-clause-rest : goal.returns-clause-rest
-returns-clause-rest c = subst (λ (x : ℕ). OnOk c.lift_between.result (c.lift_between.new.lifted.rest ≡ x)) c.loop-step.invariant.weight c.lift_between.ensures.rest
-
-pub returns-clause-least : goal.returns-clause-least
-returns-clause-least c = subst (λ (x : List LeastTurns). OnOk c.lift_between.result (c.lift_between.new.lifted.least.items ≡ x)) c.loop-step.invariant.least c.lift_between.ensures.least
+    record {
+      sketch =
+          subst (λ (x : Sketch). OnOk c.lift_between.result (c.lift_between.new.sketch ≡ x))
+          (ap (λ (k : Sketch). fold lifted_off k (inner_nodes ts)) off ∙ ap (λ (v : List ChainStep). fold lifted_off (without_walks c.args.sketch.now v) (inner_nodes v)) c.as_slice-steps.ensures) c.lift_between.ensures.sketch;
+      walks =
+          subst (λ (x : List (SegId × PlainWalk)). OnOk c.lift_between.result (c.lift_between.new.lifted.walks.items ≡ x))
+          (sym (append-nil c.loop-step.lifted.walks.items)
+          ∙ sym (at_drop_all (λ (v : List ChainStep). c.loop-step.lifted.walks.items ++ walks_along c.loop-step.sketch v) ts c.loop-step.step-index c.loop-step-test.false)
+          ∙ c.loop-step.invariant.walks
+          ∙ ap (λ (v : List ChainStep). c.args.lifted.now.walks.items ++ walks_along c.args.sketch.now v) c.as_slice-steps.ensures)
+          c.lift_between.ensures.walks;
+      inner =
+          subst (λ (x : List (NodeId × GridPoint)). OnOk c.lift_between.result (c.lift_between.new.lifted.inner.items ≡ x))
+          (ap₂ (λ (v : List (NodeId × GridPoint)) (ps : List GridPoint). v ++ map (λ (n : NodeId). (n, get_or ps n.0 (record { x = pos 0; y = pos 0 }))) (inner_nodes ts)) c.loop-step.invariant.inner c.loop-step.invariant.points
+          ∙ ap (λ (v : List ChainStep). c.args.lifted.now.inner.items ++ points_along c.args.sketch.now v) c.as_slice-steps.ensures)
+          c.lift_between.ensures.inner;
+      moved = subst (λ (x : List (NodeId × GridPoint)). OnOk c.lift_between.result (c.lift_between.new.lifted.moved.items ≡ x)) c.loop-step.invariant.moved c.lift_between.ensures.moved;
+      rest = subst (λ (x : ℕ). OnOk c.lift_between.result (c.lift_between.new.lifted.rest ≡ x)) c.loop-step.invariant.weight c.lift_between.ensures.rest;
+      least = subst (λ (x : List LeastTurns). OnOk c.lift_between.result (c.lift_between.new.lifted.least.items ≡ x)) c.loop-step.invariant.least c.lift_between.ensures.least;
+    }

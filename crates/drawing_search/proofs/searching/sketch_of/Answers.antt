@@ -22,31 +22,20 @@ pub loop-n-init : goal.loop-n-init
 loop-n-init c =
     c.in_ok-sketch.ensures ∙ ap (bare_sketch c.args.bounds c.args.points.now) (c.segs.ensures ∙ sym c.requires.walks) ∙ nodes_none c.args.bounds c.args.points.now (length c.args.walks.items)
 
-pub stand-requires-clause-node : goal.stand-requires-clause-node
-stand-requires-clause-node c = omega (arith, ap (λ (k : Sketch). length k.points) c.loop-n.invariant, c.loop-n-test.true, c.nodes-n-end.ensures.count, c.requires.points)
-
-pub stand-requires-clause-flag : goal.stand-requires-clause-flag
-stand-requires-clause-flag c =
+pub stand-requires : goal.stand-requires
+stand-requires c =
     let ps = c.args.points.now in
     let n = c.loop-n.n in
     let below : n < length ps = omega (arith, c.loop-n-test.true, c.nodes-n-end.ensures.count, c.requires.points) in
-    subst (λ (k : Sketch). n < length k.stand) (sym c.loop-n.invariant) (node_flag c.args.bounds ps (length c.args.walks.items) n below)
-
-pub stand-requires-clause-lifted : goal.stand-requires-clause-lifted
-stand-requires-clause-lifted c =
-    let ps = c.args.points.now in
-    let n = c.loop-n.n in
-    ap (λ (k : Sketch). is_standing k n) c.loop-n.invariant ∙ node_low c.args.bounds ps (length c.args.walks.items) n (omega (arith, c.loop-n-test.true, c.nodes-n-end.ensures.count, c.requires.points))
-
-pub stand-requires-clause-inside : goal.stand-requires-clause-inside
-stand-requires-clause-inside c =
-    let ps = c.args.points.now in
-    let n = c.loop-n.n in
-    ap (λ (k : Sketch). contains k.bounds (get_or ps n nowhere)) c.loop-n.invariant
-    ∙ all_place (contains c.args.bounds) ps n nowhere c.requires.inside (omega (arith, c.loop-n-test.true, c.nodes-n-end.ensures.count, c.requires.points))
-
-pub stand-requires-clause-even : goal.stand-requires-clause-even
-stand-requires-clause-even c = all_place is_even c.args.points.now c.loop-n.n nowhere c.requires.even (omega (arith, c.loop-n-test.true, c.nodes-n-end.ensures.count, c.requires.points))
+    record {
+      node = omega (arith, ap (λ (k : Sketch). length k.points) c.loop-n.invariant, c.loop-n-test.true, c.nodes-n-end.ensures.count, c.requires.points);
+      flag = subst (λ (k : Sketch). n < length k.stand) (sym c.loop-n.invariant) (node_flag c.args.bounds ps (length c.args.walks.items) n below);
+      lifted = ap (λ (k : Sketch). is_standing k n) c.loop-n.invariant ∙ node_low c.args.bounds ps (length c.args.walks.items) n (omega (arith, c.loop-n-test.true, c.nodes-n-end.ensures.count, c.requires.points));
+      inside =
+          ap (λ (k : Sketch). contains k.bounds (get_or ps n nowhere)) c.loop-n.invariant
+          ∙ all_place (contains c.args.bounds) ps n nowhere c.requires.inside (omega (arith, c.loop-n-test.true, c.nodes-n-end.ensures.count, c.requires.points));
+      even = all_place is_even c.args.points.now c.loop-n.n nowhere c.requires.even (omega (arith, c.loop-n-test.true, c.nodes-n-end.ensures.count, c.requires.points));
+    }
 
 pub loop-n-preserved : goal.loop-n-preserved
 loop-n-preserved c =
@@ -63,30 +52,23 @@ loop-walk-init c =
     let whole : length c.args.walks.items ≡ length c.args.walks.items - 0 = omega arith in
     record { sketch = c.loop-n.invariant ∙ walks_none c.args.bounds ps (length c.args.walks.items) c.loop-n.n all ∙ ap (with_walks c.args.bounds ps []) whole; count = refl }
 
-pub put_walk-requires-clause-segment : goal.put_walk-requires-clause-segment
-put_walk-requires-clause-segment c =
+pub put_walk-requires : goal.put_walk-requires
+put_walk-requires c =
     let ws = c.args.walks.items in
     let t = YieldsList-turn (YieldsList-from_vec {s = c.into_iter-walk-iterator.result} ws (search rules) (search rules)) c.loop-walk.yielded c.loop-walk.walk-iterator c.loop-walk.yielded_by c.next.result c.next.new.self c.in-Some.walk c.in-Some.is c.next.ensures.steps in
     let some : 0 < length ws - length c.loop-walk.yielded = omega (arith, t.0) in
-    omega (arith, ap (λ (k : Sketch). length k.walks) c.loop-walk.invariant.sketch, c.loop-walk.invariant.count, walk_below c.args.bounds c.args.points.now c.loop-walk.yielded (length ws - length c.loop-walk.yielded) some)
-
-pub put_walk-requires-clause-free : goal.put_walk-requires-clause-free
-put_walk-requires-clause-free c =
-    let ws = c.args.walks.items in
-    let t = YieldsList-turn (YieldsList-from_vec {s = c.into_iter-walk-iterator.result} ws (search rules) (search rules)) c.loop-walk.yielded c.loop-walk.walk-iterator c.loop-walk.yielded_by c.next.result c.next.new.self c.in-Some.walk c.in-Some.is c.next.ensures.steps in
-    let some : 0 < length ws - length c.loop-walk.yielded = omega (arith, t.0) in
-    ap (λ (k : Sketch). walk_in k (record { 0 = c.loop-walk.s })) c.loop-walk.invariant.sketch
-    ∙ ap (λ i. walk_in (with_walks c.args.bounds c.args.points.now c.loop-walk.yielded (length ws - length c.loop-walk.yielded)) (record { 0 = i })) c.loop-walk.invariant.count
-    ∙ walk_free c.args.bounds c.args.points.now c.loop-walk.yielded (length ws - length c.loop-walk.yielded) some
-
-pub put_walk-requires-clause-inside : goal.put_walk-requires-clause-inside
-put_walk-requires-clause-inside c =
-    let ws = c.args.walks.items in
-    let t = YieldsList-turn (YieldsList-from_vec {s = c.into_iter-walk-iterator.result} ws (search rules) (search rules)) c.loop-walk.yielded c.loop-walk.walk-iterator c.loop-walk.yielded_by c.next.result c.next.new.self c.in-Some.walk c.in-Some.is c.next.ensures.steps in
     let w = c.in-Some.walk in
-    ap (λ (k : Sketch). list_all (contains k.bounds) (points_of w)) c.loop-walk.invariant.sketch
-    ∙ ap (λ (x : PlainWalk). list_all (contains c.args.bounds) (points_of x)) t.1
-    ∙ all_place (λ (x : PlainWalk). list_all (contains c.args.bounds) (points_of x)) ws (length c.loop-walk.yielded) w c.requires.within t.0
+    record {
+      segment = omega (arith, ap (λ (k : Sketch). length k.walks) c.loop-walk.invariant.sketch, c.loop-walk.invariant.count, walk_below c.args.bounds c.args.points.now c.loop-walk.yielded (length ws - length c.loop-walk.yielded) some);
+      free =
+          ap (λ (k : Sketch). walk_in k (record { 0 = c.loop-walk.s })) c.loop-walk.invariant.sketch
+          ∙ ap (λ i. walk_in (with_walks c.args.bounds c.args.points.now c.loop-walk.yielded (length ws - length c.loop-walk.yielded)) (record { 0 = i })) c.loop-walk.invariant.count
+          ∙ walk_free c.args.bounds c.args.points.now c.loop-walk.yielded (length ws - length c.loop-walk.yielded) some;
+      inside =
+          ap (λ (k : Sketch). list_all (contains k.bounds) (points_of w)) c.loop-walk.invariant.sketch
+          ∙ ap (λ (x : PlainWalk). list_all (contains c.args.bounds) (points_of x)) t.1
+          ∙ all_place (λ (x : PlainWalk). list_all (contains c.args.bounds) (points_of x)) ws (length c.loop-walk.yielded) w c.requires.within t.0;
+    }
 
 pub overflow_add-s : goal.overflow_add-s
 overflow_add-s c =

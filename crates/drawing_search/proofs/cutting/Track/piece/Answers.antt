@@ -23,19 +23,18 @@ first_step ds i d h = let one : i + 1 - i ≡ 1 = omega arith in ap₂ (λ n (v 
 pub index-requires : goal.index-requires
 index-requires c = omega (arith, long c.args.self.now.points.items c.args.self.now.steps.items c.requires.track, c.requires.order, c.requires.within)
 
-pub of_step-requires-clause-start : goal.of_step-requires-clause-start
-of_step-requires-clause-start c =
+pub of_step-requires : goal.of_step-requires
+of_step-requires c =
     let ps = c.args.self.now.points.items in
     let ds = c.args.self.now.steps.items in
-    subst IsWithin (sym (get_or_read ps c.args.from c.index.result.now (omega (arith, long ps ds c.requires.track, c.requires.order, c.requires.within)) c.index.ensures nowhere))
-    (point_within ps ds c.requires.track c.args.from (omega (arith, c.requires.order, c.requires.within)))
-
-pub of_step-requires-clause-end : goal.of_step-requires-clause-end
-of_step-requires-clause-end c =
-    let ps = c.args.self.now.points.items in
-    let ds = c.args.self.now.steps.items in
-    within_next ps ds c.requires.track c.args.from c.index.result.now c.index-2.result.now (omega (arith, c.requires.order, c.requires.within))
-    (get_or_read ps c.args.from c.index.result.now (omega (arith, long ps ds c.requires.track, c.requires.order, c.requires.within)) c.index.ensures nowhere) c.index-2.ensures
+    record {
+      start =
+          subst IsWithin (sym (get_or_read ps c.args.from c.index.result.now (omega (arith, long ps ds c.requires.track, c.requires.order, c.requires.within)) c.index.ensures nowhere))
+          (point_within ps ds c.requires.track c.args.from (omega (arith, c.requires.order, c.requires.within)));
+      end =
+          within_next ps ds c.requires.track c.args.from c.index.result.now c.index-2.result.now (omega (arith, c.requires.order, c.requires.within))
+          (get_or_read ps c.args.from c.index.result.now (omega (arith, long ps ds c.requires.track, c.requires.order, c.requires.within)) c.index.ensures nowhere) c.index-2.ensures;
+    }
 
 pub loop-i-init : goal.loop-i-init
 loop-i-init c =

@@ -48,19 +48,17 @@ one_step ps ds t b i w d e h within is there turned =
 pub index-requires : goal.index-requires
 index-requires c = omega (arith, long c.args.self.now.points.items c.args.self.now.steps.items c.requires.track, c.requires.order, c.requires.within)
 
-pub of_step-requires-clause-start : goal.of_step-requires-clause-start
-of_step-requires-clause-start c =
-    let ps = c.args.self.now.points.items in
-    let ds = c.args.self.now.steps.items in
-    subst IsWithin (sym (get_or_read ps c.args.to c.index.result.now (omega (arith, long ps ds c.requires.track, c.requires.within)) c.index.ensures nowhere)) (point_within ps ds c.requires.track c.args.to c.requires.within)
-
-pub of_step-requires-clause-end : goal.of_step-requires-clause-end
-of_step-requires-clause-end c =
+pub of_step-requires : goal.of_step-requires
+of_step-requires c =
     let ps = c.args.self.now.points.items in
     let ds = c.args.self.now.steps.items in
     let whole : c.args.to ≡ c.args.to - 1 + 1 = omega (arith, c.requires.order) in
-    within_back ps ds c.requires.track (c.args.to - 1) c.index.result.now c.index-2.result.now c.reverse.result (omega (arith, c.requires.order, c.requires.within))
-    (get_or_read ps c.args.to c.index.result.now (omega (arith, long ps ds c.requires.track, c.requires.within)) c.index.ensures nowhere ∙ ap (point_at ps) whole) c.index-2.ensures c.reverse.ensures
+    record {
+      start = subst IsWithin (sym (get_or_read ps c.args.to c.index.result.now (omega (arith, long ps ds c.requires.track, c.requires.within)) c.index.ensures nowhere)) (point_within ps ds c.requires.track c.args.to c.requires.within);
+      end =
+          within_back ps ds c.requires.track (c.args.to - 1) c.index.result.now c.index-2.result.now c.reverse.result (omega (arith, c.requires.order, c.requires.within))
+          (get_or_read ps c.args.to c.index.result.now (omega (arith, long ps ds c.requires.track, c.requires.within)) c.index.ensures nowhere ∙ ap (point_at ps) whole) c.index-2.ensures c.reverse.ensures;
+    }
 
 pub loop-i-init : goal.loop-i-init
 loop-i-init c =
