@@ -1,31 +1,17 @@
 -- Drawings in the making that differ at most in where nodes lie that don't stand: they have one board, weigh the same, and
 -- the same runs can be laid on them.
 use Rattle.std.proofs.Common.{◌≡◌, refl, sym, ◌∙◌, ap, ap₂, subst, ℕ, zero, suc, ◌+◌, ◌*◌, Bool, true, false, cond, not, nat_le, List, [], ◌∷◌, length, get_or, set, replicate, zip, Option, Some, None, ◌⊎◌, inl, inr, arith, length-set, get_or-set_other}
-use Rattle.std.proofs.lemmas.Bool.{cases_eq}
-use Rattle.std.specs.List.{filter_map, list_all, list_any, range_with_len, sum_by}
-use Rattle.map_base.specs.declared.ids.NodeId.{NodeId}
-use Rattle.map_base.specs.declared.ids.SegId.{SegId}
-use Rattle.graph_core.specs.declared.parts.GraphParts.{GraphParts}
-use Rattle.line_chains.specs.declared.chain.Chain.{Chain}
-use Rattle.line_chains.specs.declared.chain.ChainStep.{ChainStep}
-use Rattle.line_chains.specs.Chains.{end_of, ends_of}
-use Rattle.octi_grid.specs.declared.dir.Dir.{Dir}
-use Rattle.octi_grid.specs.declared.point.GridPoint.{GridPoint}
-use Rattle.octi_grid.specs.Ways.{are_one, doubled}
-use Rattle.octi_grid.specs.Legal.{are_clockwise, is_among, is_even}
-use Rattle.octi_grid.specs.Walks.{doubled_of, end_point, points_of, PlainWalk}
-use Rattle.grid_board.specs.declared.bounds.Bounds.{Bounds}
-use Rattle.grid_board.specs.Boards.{contains, AreBounds}
-use Rattle.walk_search.specs.Routes.{route}
-use Rattle.segment_router.specs.Ports.{allowed_mask}
-use Rattle.segment_router.specs.Routes.{end_at, has_doubled, port_at_node, port_by}
-use Rattle.segment_router.proofs.SettledLemmas.{nowhere}
-use Rattle.drawing_weights.specs.Scales.{apart_weight_by, turn_over, Scale}
-use Rattle.run_laying.specs.Laying.{board_of, board_under, first_seg_of, from_low, laid, laid_along, last_seg_of, run_walk, standing_point, standing_points, with_piece, with_pieces, Sketch}
-use Rattle.run_laying.specs.Pieces.{even_steps, pieces_of}
-use Rattle.run_laying.specs.Sketches.{is_standing, point_of_node, walk_in, IsEndOf, IsLegalSketch, IsMeeting}
-use Rattle.drawing_search.specs.Alike.{AreAlike}
-use Rattle.drawing_search.specs.Gains.{apart_in, first_point, node_weight_in, pairs_at, sketch_weight, walk_weight_if}
+use Rattle.line_chains.specs.Chains.{ends_of}
+use Rattle.drawing_search.proofs.Common.{allowed_mask, apart_in, apart_weight_by, are_clockwise, are_one, board_of}
+use Rattle.drawing_search.proofs.Common.{board_under, cases_eq, contains, doubled, doubled_of, end_at, end_of}
+use Rattle.drawing_search.proofs.Common.{end_point, even_steps, filter_map, first_point, first_seg_of, from_low}
+use Rattle.drawing_search.proofs.Common.{has_doubled, is_among, is_even, is_standing, laid, laid_along, last_seg_of}
+use Rattle.drawing_search.proofs.Common.{list_all, list_any, node_weight_in, nowhere, pairs_at, pieces_of}
+use Rattle.drawing_search.proofs.Common.{point_of_node, points_of, port_at_node, port_by, range_with_len, route}
+use Rattle.drawing_search.proofs.Common.{run_walk, sketch_weight, standing_point, standing_points, sum_by, turn_over}
+use Rattle.drawing_search.proofs.Common.{walk_in, walk_weight_if, with_piece, with_pieces, AreAlike, AreBounds, Bounds}
+use Rattle.drawing_search.proofs.Common.{Chain, ChainStep, Dir, GraphParts, GridPoint, IsEndOf, IsLegalSketch}
+use Rattle.drawing_search.proofs.Common.{IsMeeting, NodeId, PlainWalk, Scale, SegId, Sketch}
 
 pub alike_self : (k : Sketch) → AreAlike k k
 alike_self k = record { bounds = refl; points_each = refl; stand = refl; walks = refl; points = λ n e. refl }

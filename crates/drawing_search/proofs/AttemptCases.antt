@@ -1,33 +1,13 @@
 -- The cases of an attempt: its nodes have no room, its runs add too much, they can't be laid, or the drawing gets lighter.
 use Rattle.std.proofs.Common.{◌≡◌, refl, sym, ◌∙◌, ap, subst, ℕ, ◌+◌, ◌<◌, ◌≤◌, Bool, true, false, cond, eqb, List, [], ◌∷◌, length, fold, map, get_or, set, Option, Some, None, ◌⊎◌, inl, inr, arith, length-set, get_or-set_same, get_or-set_other}
-use Rattle.std.proofs.lemmas.Bool.{cases_eq, eq-eqb, ne_eqb}
-use Rattle.std.specs.List.{sum_by}
-use Rattle.map_base.specs.declared.ids.NodeId.{NodeId}
-use Rattle.graph_core.specs.declared.parts.GraphParts.{GraphParts}
-use Rattle.graph_core.specs.Consistent.{IsConsistent}
-use Rattle.line_chains.specs.declared.chain.Chain.{Chain}
-use Rattle.line_chains.specs.Chains.{end_of}
-use Rattle.octi_grid.specs.declared.point.GridPoint.{GridPoint}
-use Rattle.octi_grid.specs.Walks.{PlainWalk}
-use Rattle.octi_grid.proofs.Members.{In}
-use Rattle.segment_router.proofs.Places.{in_at}
-use Rattle.segment_router.proofs.SettledLemmas.{nowhere}
-use Rattle.drawing_weights.specs.Scales.{apart_weight_by, Scale}
-use Rattle.run_laying.specs.Attempts.{inner_nodes, may_move}
-use Rattle.run_laying.specs.Laying.{Sketch}
-use Rattle.run_laying.specs.Runs.{IsFitting}
-use Rattle.run_laying.specs.Sketches.{is_standing, lifted, point_of_node, IsFreeFor, IsLegalSketch}
-use Rattle.run_laying.proofs.Attempted.{IsClearFor}
-use Rattle.run_laying.proofs.Shown.{stands_below}
-use Rattle.drawing_search.specs.declared.group.Group.{Group}
-use Rattle.drawing_search.specs.declared.group.Vector.{Vector}
-use Rattle.drawing_search.specs.declared.lifting.Lifted.{Lifted}
-use Rattle.drawing_search.specs.Alike.{AreAlike}
-use Rattle.drawing_search.specs.Bounds.{gains_at_least}
-use Rattle.drawing_search.specs.Changes.{all_moved, has_room, moved_by, point_after, stood_at, AreApart, AreLayable, AreLiftable, CanStandEach}
-use Rattle.drawing_search.specs.Gains.{first_point, sketch_weight}
-use Rattle.drawing_search.specs.Lifting.{attempt_by, CameOf, IsLifted}
-use Rattle.drawing_search.specs.Tries.{without, AreAllLaid, IsSettled}
+use Rattle.drawing_search.specs.Changes.{point_after}
+use Rattle.drawing_search.proofs.Common.{all_moved, apart_weight_by, attempt_by, cases_eq, end_of, eq-eqb, first_point}
+use Rattle.drawing_search.proofs.Common.{gains_at_least, has_room, in_at, inner_nodes, is_standing, lifted, may_move}
+use Rattle.drawing_search.proofs.Common.{moved_by, ne_eqb, nowhere, point_of_node, sketch_weight, stands_below}
+use Rattle.drawing_search.proofs.Common.{stood_at, sum_by, without, AreAlike, AreAllLaid, AreApart, AreLayable}
+use Rattle.drawing_search.proofs.Common.{AreLiftable, CameOf, CanStandEach, Chain, GraphParts, GridPoint, Group, In}
+use Rattle.drawing_search.proofs.Common.{IsClearFor, IsConsistent, IsFitting, IsFreeFor, IsLegalSketch, IsLifted}
+use Rattle.drawing_search.proofs.Common.{IsSettled, Lifted, NodeId, PlainWalk, Scale, Sketch, Vector}
 use Rattle.drawing_search.proofs.Alikes.{alike_self, legal_alike}
 use Rattle.drawing_search.proofs.Attempting.{came_none, came_some, have_bounds, no_room}
 use Rattle.drawing_search.proofs.LaidAll.{same_gains}

@@ -1,33 +1,14 @@
 -- What an attempt knows of nodes, runs and bounds, as it reads them.
 use Rattle.std.proofs.Common.{◌≡◌, ◌∙◌, sym, ap, subst, ℕ, ◌+◌, ◌<◌, ◌≤◌, true, false, min, List, length, fold, map, Option, Some, None, arith, get_or}
-use Rattle.std.specs.List.{sum_by}
-use Rattle.std.specs.Prelude.{All, ◌&&◌, not}
-use Rattle.std.proofs.lemmas.List.{length-map}
-use Rattle.std.proofs.lemmas.Bool.{and_parts}
-use Rattle.map_base.specs.declared.ids.NodeId.{NodeId}
-use Rattle.graph_core.specs.declared.parts.GraphParts.{GraphParts}
-use Rattle.graph_core.specs.Consistent.{IsConsistent}
-use Rattle.line_chains.specs.declared.chain.Chain.{Chain}
-use Rattle.line_chains.specs.Chains.{end_of}
-use Rattle.octi_grid.specs.declared.point.GridPoint.{GridPoint}
-use Rattle.octi_grid.specs.Ways.{doubled}
-use Rattle.octi_grid.proofs.Members.{all_at, In}
-use Rattle.grid_board.specs.Points.{is_near}
-use Rattle.grid_board.specs.declared.bounds.Bounds.{Bounds}
-use Rattle.grid_board.specs.Boards.{contains}
-use Rattle.segment_router.proofs.Places.{all_in, in_at}
-use Rattle.drawing_weights.specs.Scales.{apart_weight_by, Scale}
-use Rattle.run_laying.specs.Laying.{Sketch, board_of}
 use Rattle.run_laying.specs.Sketches.{lifted as lifted_off, point_of_node}
-use Rattle.drawing_search.specs.declared.group.Group.{Group}
-use Rattle.drawing_search.specs.declared.group.Vector.{Vector}
-use Rattle.drawing_search.specs.declared.least.LeastTurns.{LeastTurns}
-use Rattle.drawing_search.specs.declared.lifting.Lifted.{Lifted}
-use Rattle.drawing_search.specs.Bounds.{gains_at_least, HaveBounds, IsSmallLeast}
-use Rattle.drawing_search.specs.Changes.{all_moved, has_room, moved_by, point_after, stood_at, AreLayable, AreLiftable, CanStandEach, is_open}
-use Rattle.drawing_search.specs.Gains.{first_point, sketch_weight}
-use Rattle.drawing_search.specs.Lifting.{IsAttempted, IsOff}
-use Rattle.drawing_search.specs.Tries.{AreAllLaid}
+use Rattle.drawing_search.specs.Changes.{point_after}
+use Rattle.drawing_search.specs.Lifting.{IsOff}
+use Rattle.drawing_search.proofs.Common.{all_at, all_in, all_moved, and_parts, apart_weight_by, board_of, contains}
+use Rattle.drawing_search.proofs.Common.{doubled, end_of, first_point, gains_at_least, has_room, in_at, is_near}
+use Rattle.drawing_search.proofs.Common.{is_open, length-map, moved_by, not, sketch_weight, stood_at, sum_by, ◌&&◌, All}
+use Rattle.drawing_search.proofs.Common.{AreAllLaid, AreLayable, AreLiftable, Bounds, CanStandEach, Chain, GraphParts}
+use Rattle.drawing_search.proofs.Common.{GridPoint, Group, HaveBounds, In, IsAttempted, IsConsistent, IsSmallLeast}
+use Rattle.drawing_search.proofs.Common.{LeastTurns, Lifted, NodeId, Scale, Sketch, Vector}
 use Rattle.drawing_search.proofs.AttemptCases.{can_move, case_failed, case_heavy, case_made, case_no_room, layable_moved, least_moved, moved_may_lift, ready_moved, weight_moved}
 use Rattle.drawing_search.proofs.FewSteps.{apart_few}
 use Rattle.drawing_search.proofs.LayingAll.{least_of}

@@ -1,35 +1,12 @@
 -- What comes of an attempt, where its runs are laid on what is alike what it lays them on.
 use Rattle.std.proofs.Common.{◌≡◌, refl, sym, ◌∙◌, ap, subst, ℕ, ◌<◌, Bool, true, false, cond, nat_lt, List, [], ◌∷◌, length, map, Option, Some, None, inl, inr, arith}
-use Rattle.std.proofs.lemmas.Bool.{ltb-true}
-use Rattle.std.proofs.lemmas.List.FromFn.{get_or-map-range_with_len}
-use Rattle.std.specs.List.{range_with_len}
-use Rattle.std.specs.Prelude.{slice_index}
-use Rattle.map_base.specs.declared.ids.NodeId.{NodeId}
-use Rattle.graph_core.specs.declared.parts.GraphParts.{GraphParts}
-use Rattle.graph_core.specs.Consistent.{IsConsistent}
-use Rattle.line_chains.specs.declared.chain.Chain.{Chain}
-use Rattle.octi_grid.specs.declared.point.GridPoint.{GridPoint}
-use Rattle.octi_grid.specs.Walks.{PlainWalk}
-use Rattle.octi_grid.proofs.Members.{In}
-use Rattle.segment_router.proofs.SettledLemmas.{nowhere}
-use Rattle.drawing_weights.specs.Scales.{Scale}
-use Rattle.run_laying.specs.Attempts.{attempted_on, may_move, Attempt}
-use Rattle.run_laying.specs.Laying.{all_laid, if_laid, laid, Sketch}
-use Rattle.run_laying.specs.Runs.{AreBeside, IsFitting, IsRun}
-use Rattle.run_laying.specs.Sketches.{is_standing, IsLegalSketch}
-use Rattle.run_laying.proofs.Attempted.{beside_off, laid_on, still_clear, IsClearFor}
-use Rattle.drawing_search.specs.declared.group.Group.{Group}
-use Rattle.drawing_search.specs.declared.group.Vector.{Vector}
-use Rattle.drawing_search.specs.declared.least.LeastTurns.{LeastTurns}
-use Rattle.drawing_search.specs.declared.lifting.Lifted.{Lifted}
-use Rattle.drawing_search.specs.Alike.{AreAlike}
-use Rattle.drawing_search.specs.Bounds.{HaveBounds, HaveLeast, IsBoundOf}
-use Rattle.drawing_search.specs.Changes.{AreApart}
-use Rattle.drawing_search.specs.Gains.{sketch_weight}
-use Rattle.drawing_search.specs.Least.{least_beside}
-use Rattle.drawing_search.specs.Lifting.{IsLifted}
-use Rattle.drawing_search.specs.Tries.{if_below, taken_off, tried, without, IsSettled}
-use Rattle.drawing_search.specs.Trying.{IsWhole}
+use Rattle.drawing_search.proofs.Common.{all_laid, attempted_on, beside_off, get_or-map-range_with_len, if_below}
+use Rattle.drawing_search.proofs.Common.{if_laid, is_standing, laid, laid_on, least_beside, ltb-true, may_move, nowhere}
+use Rattle.drawing_search.proofs.Common.{range_with_len, sketch_weight, slice_index, still_clear, taken_off, tried}
+use Rattle.drawing_search.proofs.Common.{without, AreAlike, AreApart, AreBeside, Attempt, Chain, GraphParts, GridPoint}
+use Rattle.drawing_search.proofs.Common.{Group, HaveBounds, HaveLeast, In, IsBoundOf, IsClearFor, IsConsistent}
+use Rattle.drawing_search.proofs.Common.{IsFitting, IsLegalSketch, IsLifted, IsRun, IsSettled, IsWhole, LeastTurns}
+use Rattle.drawing_search.proofs.Common.{Lifted, NodeId, PlainWalk, Scale, Sketch, Vector}
 use Rattle.drawing_search.proofs.Alikes.{alike_on, laid_alike, same_weight, ComesAlike}
 use Rattle.drawing_search.proofs.Moving.{begun_clear, begun_is_legal, comes_kept}
 use Rattle.drawing_search.proofs.OnWalks.{below_some}

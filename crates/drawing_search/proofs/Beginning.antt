@@ -1,37 +1,15 @@
 -- A search begins with a whole drawing on its board, and ends with one.
 use Rattle.std.proofs.Common.{◌≡◌, refl, sym, ◌∙◌, ap, ap₂, subst, ℕ, zero, suc, ◌+◌, ◌<◌, ◌≤◌, Bool, true, not, List, [], ◌∷◌, length, map, get_or, replicate, Option, Some, None, Result, Ok, Err, arith}
-use Rattle.std.proofs.lemmas.Bool.{and_from}
-use Rattle.std.proofs.lemmas.List.{get_or-map, get_or_default, length-map}
-use Rattle.std.proofs.lemmas.List.FromFn.{fill_by_all, length-map-range_with_len}
-use Rattle.std.specs.List.{filter_map, list_all, range_with_len}
-use Rattle.std.specs.Prelude.{All, IfOk}
-use Rattle.graph_core.specs.declared.parts.GraphParts.{GraphParts}
-use Rattle.graph_core.specs.Consistent.{IsConsistent}
 use Rattle.octi_grid.specs.declared.dir.Dir.TheVariants as dir
-use Rattle.octi_grid.specs.declared.point.GridPoint.{GridPoint}
-use Rattle.octi_grid.specs.Legal.{is_even}
-use Rattle.octi_grid.specs.Walks.{points_of, PlainWalk}
-use Rattle.grid_board.specs.declared.bounds.Bounds.{Bounds}
-use Rattle.grid_board.specs.Boards.{contains, AreBounds}
-use Rattle.grid_board.specs.Points.{are_near, is_near}
-use Rattle.segment_router.proofs.SettledLemmas.{nowhere}
-use Rattle.drawing_weights.specs.Drawn.{points_all, IsDrawn}
-use Rattle.drawing_weights.specs.Scales.{weight_by, Scale}
-use Rattle.drawing_weights.specs.Weights.{point_of}
-use Rattle.run_laying.specs.Attempts.{bounds_past, is_inner, walk_beside, without_runs, Attempt}
-use Rattle.run_laying.specs.Drawings.{IsOnBoard}
-use Rattle.run_laying.specs.Laying.{Sketch}
-use Rattle.run_laying.specs.Runs.{IsFitting}
-use Rattle.run_laying.specs.Sketches.{IsLegalSketch}
-use Rattle.run_laying.specs.Searches.{Found}
-use Rattle.run_laying.proofs.Kept.{kept_sketch}
-use Rattle.run_laying.proofs.Whole.{whole_legal}
-use Rattle.drawing_search.specs.declared.group.Group.{Group}
 use Rattle.drawing_search.specs.declared.searching.Searched.{Searched}
-use Rattle.drawing_search.specs.Gains.{sketch_weight}
-use Rattle.drawing_search.specs.Searched.{found_on, IsSearched, IsSearchedOn}
-use Rattle.drawing_search.specs.Shown.{whole_sketch}
-use Rattle.drawing_search.specs.Trying.{walks_of, IsWhole}
+use Rattle.drawing_search.proofs.Common.{and_from, are_near, bounds_past, contains, fill_by_all, filter_map, found_on}
+use Rattle.drawing_search.proofs.Common.{get_or-map, get_or_default, is_even, is_inner, is_near, kept_sketch}
+use Rattle.drawing_search.proofs.Common.{length-map, length-map-range_with_len, list_all, nowhere, point_of, points_all}
+use Rattle.drawing_search.proofs.Common.{points_of, range_with_len, sketch_weight, walk_beside, walks_of, weight_by}
+use Rattle.drawing_search.proofs.Common.{whole_legal, whole_sketch, without_runs, All, AreBounds, Attempt, Bounds}
+use Rattle.drawing_search.proofs.Common.{Found, GraphParts, GridPoint, Group, IfOk, IsConsistent, IsDrawn, IsFitting}
+use Rattle.drawing_search.proofs.Common.{IsLegalSketch, IsOnBoard, IsSearched, IsSearchedOn, IsWhole, PlainWalk, Scale}
+use Rattle.drawing_search.proofs.Common.{Sketch}
 use Rattle.drawing_search.proofs.OnWalks.{same_weight, sketch_by_walks, IsGood}
 use Rattle.drawing_search.proofs.RunReads.{near_more}
 use Rattle.drawing_search.proofs.Searches.{IsBetweenPasses}

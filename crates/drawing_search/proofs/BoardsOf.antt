@@ -1,26 +1,16 @@
 -- How the board of a sketch changes.
 use Rattle.std.proofs.Common.{◌≡◌, refl, sym, ◌∙◌, ap, subst, ℕ, zero, suc, ◌<◌, Bool, true, false, not, ◌&&◌, ◌||◌, List, [], ◌∷◌, length, get_or, replicate, set, Option, Some, None, ◌⊎◌, inl, inr, arith, length-set, get_or-set_same, get_or-set_other, ap₂}
-use Rattle.std.proofs.lemmas.Bool.{and_from, and_parts, cases_eq, not-true, true≢false}
-use Rattle.std.specs.List.{filter_map, list_any, zip, list_all}
-use Rattle.std.proofs.lemmas.List.{set-get_or}
-use Rattle.map_base.specs.declared.ids.NodeId.{NodeId}
-use Rattle.map_base.specs.declared.ids.SegId.{SegId}
-use Rattle.graph_core.specs.declared.parts.GraphParts.{GraphParts}
-use Rattle.graph_core.specs.Consistent.{IsConsistent}
 use Rattle.line_chains.specs.Chains.{ends_of}
-use Rattle.octi_grid.specs.declared.point.GridPoint.{GridPoint}
-use Rattle.octi_grid.specs.Ways.{are_one}
-use Rattle.octi_grid.specs.Walks.{doubled_of, PlainWalk}
-use Rattle.octi_grid.specs.Legal.{is_among}
-use Rattle.octi_grid.proofs.Members.{any_from, are_one_from, are_one-refl, one_point, same_test}
-use Rattle.grid_board.specs.declared.bounds.Bounds.{Bounds}
-use Rattle.grid_board.specs.Boards.{empty_board, with_node, with_walk, without_node, contains, is_inside, parts_of, without_walk, BoardFlags, BoardParts, IsBoard}
 use Rattle.grid_board.proofs.OnBoards.{shown_bounds}
-use Rattle.segment_router.specs.Routes.{has_doubled}
-use Rattle.run_laying.specs.Laying.{board_of, standing_point, standing_points, Sketch}
-use Rattle.run_laying.specs.Sketches.{is_standing, lifted, point_of_node, stood, walk_in, with_walk_of, IsLegalSketch}
-use Rattle.run_laying.proofs.Shown.{in_standing, node_shown, shown_node, stands_below, board_fits}
-use Rattle.drawing_search.specs.Shown.{bare_sketch, sketch_of}
+use Rattle.drawing_search.proofs.Common.{and_from, and_parts, any_from, are_one, are_one-refl, are_one_from}
+use Rattle.drawing_search.proofs.Common.{bare_sketch, board_fits, board_of, cases_eq, contains, doubled_of, empty_board}
+use Rattle.drawing_search.proofs.Common.{filter_map, has_doubled, in_standing, is_among, is_inside, is_standing, lifted}
+use Rattle.drawing_search.proofs.Common.{list_all, list_any, node_shown, not-true, one_point, parts_of, point_of_node}
+use Rattle.drawing_search.proofs.Common.{same_test, set-get_or, shown_node, sketch_of, standing_point, standing_points}
+use Rattle.drawing_search.proofs.Common.{stands_below, stood, true≢false, walk_in, with_node, with_walk, with_walk_of}
+use Rattle.drawing_search.proofs.Common.{without_node, without_walk, zip, BoardFlags, BoardParts, Bounds, GraphParts}
+use Rattle.drawing_search.proofs.Common.{GridPoint, IsBoard, IsConsistent, IsLegalSketch, NodeId, PlainWalk, SegId}
+use Rattle.drawing_search.proofs.Common.{Sketch}
 use Rattle.drawing_search.proofs.TakenOff.{board_freed, has_walk_at, off_legal}
 
 exchanged : (s t u : Bool) → (s || (t || u)) ≡ (t || (s || u))

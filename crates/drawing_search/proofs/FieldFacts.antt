@@ -1,27 +1,14 @@
 -- What the joined pairs of a field are.
 use Rattle.std.proofs.Common.{◌≡◌, refl, sym, ◌∙◌, ap, subst, ℕ, ◌+◌, ◌*◌, ◌<◌, ◌≤◌, Bool, true, false, cond, List, [], ◌∷◌, length, map, drop, get_or, Contains, inl, inr, arith, length-drop, ◌⊎◌, zero, suc, eqb, ◌&&◌, ◌||◌, ◌++◌, append_assoc}
 use Rattle.std.proofs.Math.ListN.{get_or-map}
-use Rattle.std.proofs.Math.Nat.{mul-le-mul_left}
-use Rattle.std.proofs.lemmas.List.{drop_more, length-map}
-use Rattle.std.proofs.lemmas.Bool.{lt-ltb, and_from, and_parts, cases_Bool, eq-eqb, eqb-true, true≢false}
-use Rattle.std.proofs.lemmas.Bool.Decides.{nat_tests}
-use Rattle.std.specs.Prelude.{nat_lt, vec_items}
-use Rattle.std.specs.List.{list_any}
-use Rattle.map_base.specs.declared.ids.SegId.{SegId}
-use Rattle.map_base.specs.declared.ids.NodeId.{NodeId}
-use Rattle.graph_core.specs.declared.parts.GraphParts.{GraphParts}
 use Rattle.graph_core.specs.declared.parts.Join.{Join}
-use Rattle.graph_core.specs.Consistent.{IsConsistent, IsJoin, AreSorted, IsBefore}
-use Rattle.line_chains.specs.declared.chain.ChainStep.{ChainStep}
-use Rattle.octi_grid.specs.declared.point.GridPoint.{GridPoint}
-use Rattle.octi_grid.proofs.Members.{In, any_at, any_from}
-use Rattle.segment_router.proofs.Places.{all_in, in_at}
-use Rattle.segment_router.proofs.RoutingLemmas.{round_within}
-use Rattle.drawing_weights.specs.Scales.{joined_pairs, join_same, Scale}
-use Rattle.run_laying.specs.Laying.{Sketch}
-use Rattle.run_laying.specs.Runs.{MeetAlone}
 use Rattle.drawing_search.specs.declared.gains.Field.{Field}
-use Rattle.drawing_search.specs.Gains.{pairs_at, step_gain, steps_gain, IsField, same_as_next}
+use Rattle.drawing_search.proofs.Common.{all_in, and_from, and_parts, any_at, any_from, cases_Bool, drop_more, eq-eqb}
+use Rattle.drawing_search.proofs.Common.{eqb-true, in_at, join_same, joined_pairs, length-map, list_any, lt-ltb}
+use Rattle.drawing_search.proofs.Common.{mul-le-mul_left, nat_lt, nat_tests, pairs_at, round_within, same_as_next}
+use Rattle.drawing_search.proofs.Common.{step_gain, steps_gain, true≢false, vec_items, AreSorted, ChainStep, GraphParts}
+use Rattle.drawing_search.proofs.Common.{GridPoint, In, IsBefore, IsConsistent, IsField, IsJoin, MeetAlone, NodeId}
+use Rattle.drawing_search.proofs.Common.{Scale, SegId, Sketch}
 use Rattle.drawing_search.proofs.Takable.{in_from}
 
 -- the pair of the one join is no later than that of another

@@ -1,43 +1,25 @@
 -- What a run adds to the weight of a drawing on which it is laid: its walks, the nodes between its ends, and the turns of
 -- lines that go on from it at both ends.
 use Rattle.std.proofs.Common.{◌≡◌, refl, sym, ◌∙◌, ap, ap₂, subst, ℕ, ◌+◌, ◌-◌, ◌*◌, ◌<◌, ◌≤◌, true, false, cond, eqb, ◌||◌, List, [], ◌∷◌, length, map, get_or, Option, Some, None, ◌⊎◌, inl, inr, arith, get_or-set_other}
-use Rattle.std.proofs.lemmas.Bool.{cases_Bool, eq-eqb, eqb-true, or_cases, or_left, or_right, true≢false}
-use Rattle.std.proofs.lemmas.List.Sums.{sum_by-cons}
-use Rattle.std.specs.List.{range_with_len, sum_by}
-use Rattle.map_base.specs.declared.ids.NodeId.{NodeId}
-use Rattle.map_base.specs.declared.ids.SegId.{SegId}
-use Rattle.graph_core.specs.declared.parts.GraphParts.{GraphParts}
-use Rattle.graph_core.specs.Consistent.{IsConsistent}
-use Rattle.line_chains.specs.declared.chain.Chain.{Chain}
-use Rattle.line_chains.specs.declared.chain.ChainStep.{ChainStep}
-use Rattle.line_chains.specs.Chains.{end_after, end_of, ends_of, last_seg}
-use Rattle.octi_grid.specs.declared.dir.Dir.{Dir}
-use Rattle.octi_grid.specs.declared.point.GridPoint.{GridPoint}
-use Rattle.octi_grid.specs.Costs.{turn_between}
-use Rattle.octi_grid.specs.Ways.{reverse_of}
-use Rattle.octi_grid.specs.Walks.{end_point, PlainWalk}
-use Rattle.octi_grid.proofs.Members.{false_from, In}
-use Rattle.segment_router.specs.Routes.{port_at_node, port_by}
-use Rattle.segment_router.proofs.MaskLemmas.{ends_round}
-use Rattle.segment_router.proofs.Places.{same_seg}
-use Rattle.segment_router.proofs.SettledLemmas.{nowhere}
-use Rattle.drawing_weights.specs.Scales.{apart_weight_by, turn_over, Scale}
-use Rattle.run_laying.specs.Attempts.{inner_nodes}
-use Rattle.run_laying.specs.Laying.{board_under, first_seg_of, last_seg_of, with_piece, with_pieces, Sketch}
-use Rattle.run_laying.specs.Runs.{AreOnce, AreSteps, IsRun, LeadsTo, MeetAlone}
-use Rattle.run_laying.specs.Sketches.{is_standing, point_of_node, IsEndOf, IsLegalSketch}
-use Rattle.run_laying.proofs.Attempted.{IsClearFor}
-use Rattle.run_laying.proofs.LaidRuns.{keeps_lifted, keeps_standing, same_walk, to_stands}
-use Rattle.run_laying.proofs.Reversed.{twice}
-use Rattle.run_laying.proofs.Shown.{stands_below}
-use Rattle.run_laying.proofs.RunFacts.{contains_in, end_below, inner_of, leads_to, once_first, step_of, IsInner, IsOff}
-use Rattle.drawing_search.specs.Changes.{AreApart}
-use Rattle.drawing_search.specs.Gains.{apart_in, first_point, has_segment, node_weight_in, pairs_at, run_gain, segment_weight, sketch_weight, steps_gain, turn_by, turn_if, turn_in, turns_by, turns_from, turns_in, walk_weight_if}
+use Rattle.line_chains.specs.Chains.{ends_of}
+use Rattle.run_laying.proofs.RunFacts.{IsOff}
+use Rattle.drawing_search.proofs.Common.{apart_in, apart_weight_by, board_under, cases_Bool, contains_in, end_after}
+use Rattle.drawing_search.proofs.Common.{end_below, end_of, end_point, ends_round, eq-eqb, eqb-true, false_from}
+use Rattle.drawing_search.proofs.Common.{first_point, first_seg_of, has_segment, inner_nodes, inner_of, is_standing}
+use Rattle.drawing_search.proofs.Common.{keeps_lifted, keeps_standing, last_seg, last_seg_of, leads_to, node_weight_in}
+use Rattle.drawing_search.proofs.Common.{nowhere, once_first, or_cases, or_left, or_right, pairs_at, point_of_node}
+use Rattle.drawing_search.proofs.Common.{port_at_node, port_by, range_with_len, reverse_of, run_gain, same_seg}
+use Rattle.drawing_search.proofs.Common.{same_walk, segment_weight, sketch_weight, stands_below, step_of, steps_gain}
+use Rattle.drawing_search.proofs.Common.{sum_by, sum_by-cons, to_stands, true≢false, turn_back, turn_between, turn_by}
+use Rattle.drawing_search.proofs.Common.{turn_if, turn_in, turn_over, turns_by, turns_from, turns_in, twice}
+use Rattle.drawing_search.proofs.Common.{walk_weight_if, with_piece, with_pieces, AreApart, AreOnce, AreSteps, Chain}
+use Rattle.drawing_search.proofs.Common.{ChainStep, Dir, GraphParts, GridPoint, In, IsClearFor, IsConsistent, IsEndOf}
+use Rattle.drawing_search.proofs.Common.{IsInner, IsLegalSketch, IsRun, LeadsTo, MeetAlone, NodeId, PlainWalk, Scale}
+use Rattle.drawing_search.proofs.Common.{SegId, Sketch}
 use Rattle.drawing_search.proofs.FieldFacts.{pair_joined, IsJoined, of_two}
 use Rattle.drawing_search.proofs.Growing.{grown, in_range, is_one_of, same_sum, sum_both, sum_grows, sum_map, AreDifferent}
 use Rattle.drawing_search.proofs.TurnSums.{turn_same_back}
 use Rattle.drawing_search.proofs.Takable.{inner_apart, from_map, in_mapped}
-use Rattle.walk_search.proofs.Crossing.{turn_back}
 
 -- ---- which segments of a run end where
 

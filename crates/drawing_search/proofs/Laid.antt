@@ -1,25 +1,11 @@
 -- A run is laid step by step along a walk that is cut.
 use Rattle.std.proofs.Common.{◌≡◌, refl, sym, ◌∙◌, ap, subst, ℕ, ◌+◌, ◌<◌, Bool, true, false, cond, nat_le, nat_lt, List, [], ◌∷◌, length, map, drop, get_or, set, Option, Some, None, inl, arith, length-drop}
-use Rattle.std.proofs.lemmas.Bool.{lt-ltb}
-use Rattle.std.proofs.lemmas.List.{drop_more, set-get_or}
-use Rattle.std.specs.List.{range_with_len}
-use Rattle.map_base.specs.declared.ids.NodeId.{NodeId}
-use Rattle.map_base.specs.declared.ids.SegId.{SegId}
-use Rattle.graph_core.specs.declared.parts.GraphParts.{GraphParts}
-use Rattle.graph_core.specs.Consistent.{IsConsistent}
-use Rattle.line_chains.specs.declared.chain.Chain.{Chain}
-use Rattle.line_chains.specs.declared.chain.ChainStep.{ChainStep}
-use Rattle.octi_grid.specs.declared.point.GridPoint.{GridPoint}
-use Rattle.octi_grid.specs.Walks.{cost_of, end_point, points_of, PlainWalk}
-use Rattle.segment_router.proofs.SettledLemmas.{nowhere}
-use Rattle.walk_search.specs.Routes.{if_within}
-use Rattle.run_laying.specs.Laying.{board_under, from_low, laid_along, run_walk, with_piece, with_pieces, Sketch}
-use Rattle.run_laying.specs.Pieces.{cut_place, cuts_at, even_steps, pieces_of}
-use Rattle.run_laying.specs.Sketches.{is_standing, point_of_node, stood, walk_in, with_walk_of}
-use Rattle.run_laying.proofs.LaidRuns.{laid_further, IsLaying}
-use Rattle.run_laying.proofs.RunFacts.{end_below, leads_to}
-use Rattle.drawing_search.specs.Changes.{StandsAfter}
-use Rattle.drawing_search.specs.Trying.{laid_within}
+use Rattle.drawing_search.proofs.Common.{board_under, cost_of, cut_place, cuts_at, drop_more, end_below, end_point}
+use Rattle.drawing_search.proofs.Common.{even_steps, from_low, if_within, is_standing, laid_along, laid_further}
+use Rattle.drawing_search.proofs.Common.{laid_within, leads_to, lt-ltb, nowhere, pieces_of, point_of_node, points_of}
+use Rattle.drawing_search.proofs.Common.{range_with_len, run_walk, set-get_or, stood, walk_in, with_piece, with_pieces}
+use Rattle.drawing_search.proofs.Common.{with_walk_of, Chain, ChainStep, GraphParts, GridPoint, IsConsistent, IsLaying}
+use Rattle.drawing_search.proofs.Common.{NodeId, PlainWalk, SegId, Sketch, StandsAfter}
 use Rattle.drawing_search.proofs.FieldFacts.{one_behind}
 
 -- ---- what was found

@@ -1,50 +1,26 @@
 -- Runs that are laid one after another add no less than their bounds say, also those that were made beside fewer walks.
 use Rattle.std.proofs.Common.{◌≡◌, refl, sym, ◌∙◌, ap, subst, ℕ, ◌+◌, ◌-◌, ◌/◌, ◌<◌, ◌≤◌, Bool, true, false, cond, eqb, min, List, [], ◌∷◌, length, fold, map, get_or, Option, Some, None, ◌⊎◌, inl, inr, arith, length-set, get_or-set_same}
-use Rattle.std.proofs.Math.Nat.{mul-le-mul_left}
-use Rattle.std.proofs.lemmas.Bool.{cases_eq, eq-eqb, true≢false}
-use Rattle.std.proofs.lemmas.List.Sums.{sum_by-cons}
-use Rattle.std.specs.Int.{bit_at}
-use Rattle.std.specs.List.{flat_map, sum_by}
-use Rattle.std.specs.Prelude.{slice_index}
-use Rattle.map_base.specs.declared.ids.NodeId.{NodeId}
-use Rattle.map_base.specs.declared.ids.SegId.{SegId}
-use Rattle.graph_core.specs.declared.parts.GraphParts.{GraphParts}
-use Rattle.graph_core.specs.Consistent.{IsConsistent}
-use Rattle.line_chains.specs.declared.chain.Chain.{Chain}
-use Rattle.line_chains.specs.declared.chain.ChainStep.{ChainStep}
-use Rattle.line_chains.specs.Chains.{end_after, end_of, ends_of, last_seg}
-use Rattle.octi_grid.specs.declared.dir.Dir.{Dir}
-use Rattle.octi_grid.specs.declared.point.GridPoint.{GridPoint}
-use Rattle.octi_grid.specs.Ways.{after, number_of}
-use Rattle.octi_grid.specs.Walks.{cost_of, end_point, PlainWalk}
-use Rattle.octi_grid.proofs.Fronts.{IsSameOrNone}
-use Rattle.octi_grid.proofs.Members.{from_flat_map, In}
+use Rattle.line_chains.specs.Chains.{ends_of}
 use Rattle.walk_search.specs.Reaching.{reach_of}
-use Rattle.walk_search.specs.Routes.{allows, directions}
-use Rattle.segment_router.specs.Ports.{is_allowed, stops_from, with_port, with_stop}
-use Rattle.segment_router.specs.Routes.{end_at, port_at_node, port_by}
 use Rattle.segment_router.proofs.ClockLemmas.{bit_told}
 use Rattle.segment_router.proofs.RouteLemmas.{in_filter, route_parts, IsRoute}
-use Rattle.segment_router.proofs.SettledLemmas.{nowhere}
-use Rattle.drawing_weights.specs.Scales.{turn_over, Scale}
-use Rattle.run_laying.specs.Attempts.{inner_nodes}
-use Rattle.run_laying.specs.Laying.{board_of, board_under, first_seg_of, laid, last_seg_of, with_piece, with_pieces, Sketch}
-use Rattle.run_laying.specs.Runs.{AreSteps, IsRun}
-use Rattle.run_laying.specs.Sketches.{is_standing, point_of_node, walk_in, IsEndOf, IsLegalSketch}
-use Rattle.run_laying.proofs.Attempted.{IsClearFor, IsLaidOn}
-use Rattle.run_laying.proofs.Cuts.{split_end}
-use Rattle.run_laying.proofs.LaidRuns.{same_walk, IsCut}
-use Rattle.run_laying.proofs.RunFacts.{end_below, in_round, leads_from, leads_to, IsOff}
-use Rattle.run_laying.proofs.Shown.{stands_below}
-use Rattle.drawing_search.specs.declared.least.LeastTurns.{LeastTurns}
-use Rattle.drawing_search.specs.Bounds.{gains_at_least, HaveBounds, IsBoundOf}
-use Rattle.drawing_search.specs.Gains.{pairs_at, run_gain, sketch_weight, turn_by, turns_by}
-use Rattle.drawing_search.specs.Least.{allowed_dirs, least_beside, least_by, never, ports_for, straight_way}
+use Rattle.run_laying.proofs.RunFacts.{IsOff}
+use Rattle.drawing_search.proofs.Common.{after, allowed_dirs, allows, bit_at, board_of, board_under, cases_eq, cost_of}
+use Rattle.drawing_search.proofs.Common.{directions, end_after, end_at, end_below, end_of, end_point, eq-eqb}
+use Rattle.drawing_search.proofs.Common.{first_leads, first_seg_of, flat_map, from_flat_map, gains_at_least, in_round}
+use Rattle.drawing_search.proofs.Common.{inner_nodes, is_allowed, is_standing, laid, last_seg, last_seg_of, leads_from}
+use Rattle.drawing_search.proofs.Common.{leads_to, least_beside, least_by, mul-le-mul_left, never, nowhere, number_of}
+use Rattle.drawing_search.proofs.Common.{pairs_at, point_of_node, port_at_node, port_by, ports_for, run_gain, same_walk}
+use Rattle.drawing_search.proofs.Common.{sketch_weight, slice_index, split_end, stands_below, stops_from, straight_way}
+use Rattle.drawing_search.proofs.Common.{sum_by, sum_by-cons, true≢false, turn_by, turn_over, turns_by, walk_in}
+use Rattle.drawing_search.proofs.Common.{with_piece, with_pieces, with_port, with_stop, AreSteps, Chain, ChainStep, Dir}
+use Rattle.drawing_search.proofs.Common.{GraphParts, GridPoint, HaveBounds, In, IsBoundOf, IsClearFor, IsConsistent}
+use Rattle.drawing_search.proofs.Common.{IsCut, IsEndOf, IsLaidOn, IsLegalSketch, IsRun, IsSameOrNone, LeastTurns}
+use Rattle.drawing_search.proofs.Common.{NodeId, PlainWalk, Scale, SegId, Sketch}
 use Rattle.drawing_search.proofs.Gained.{leads_where, run_gained, same_point}
 use Rattle.drawing_search.proofs.RunBounds.{fold_least, least_allowed, run_no_less, run_within}
 use Rattle.drawing_search.proofs.Spaced.{allowed_fewer}
 use Rattle.drawing_search.proofs.Takable.{on_or_off, from_map}
-use Rattle.run_laying.proofs.Kept.{first_leads}
 
 -- ---- bounds beside more walks
 

@@ -1,27 +1,11 @@
 -- Runs of an attempt that were laid so far, and what is left where they are taken away again.
 use Rattle.std.proofs.Common.{◌≡◌, refl, sym, ◌∙◌, ap, subst, ℕ, Bool, true, false, List, [], ◌∷◌, ◌++◌, length, fold, get_or, Option, Some, None, ◌⊎◌, inl, inr, arith, length-set}
-use Rattle.std.proofs.lemmas.Bool.{cases_Bool, true≢false}
-use Rattle.map_base.specs.declared.ids.NodeId.{NodeId}
-use Rattle.map_base.specs.declared.ids.SegId.{SegId}
-use Rattle.graph_core.specs.declared.parts.GraphParts.{GraphParts}
-use Rattle.graph_core.specs.Consistent.{IsConsistent}
-use Rattle.line_chains.specs.declared.chain.Chain.{Chain}
-use Rattle.line_chains.specs.declared.chain.ChainStep.{ChainStep}
-use Rattle.line_chains.specs.Chains.{end_of}
-use Rattle.octi_grid.specs.Walks.{end_point, PlainWalk}
-use Rattle.octi_grid.specs.declared.point.GridPoint.{GridPoint}
-use Rattle.octi_grid.proofs.Members.{in_append, in_left, in_right, In}
-use Rattle.segment_router.proofs.SettledLemmas.{nowhere}
-use Rattle.run_laying.specs.Attempts.{inner_nodes, is_inner, is_on_runs}
-use Rattle.run_laying.specs.Laying.{from_low, with_piece, with_pieces, Sketch}
-use Rattle.run_laying.specs.Runs.{AreBeside, IsRun}
-use Rattle.run_laying.specs.Sketches.{is_standing, point_of_node, walk_in, IsLegalSketch}
-use Rattle.run_laying.proofs.Attempted.{IsClearFor, IsLaidOn}
-use Rattle.run_laying.proofs.LaidRuns.{keeps_lifted, keeps_standing, same_bounds, same_walk, to_stands}
-use Rattle.run_laying.proofs.Kept.{inner_step}
-use Rattle.run_laying.proofs.RunFacts.{inner_of}
-use Rattle.drawing_search.specs.Alike.{AreAlike}
-use Rattle.drawing_search.specs.Changes.{without_run, AreTakable}
+use Rattle.drawing_search.proofs.Common.{cases_Bool, end_of, end_point, from_low, in_append, in_left, in_right}
+use Rattle.drawing_search.proofs.Common.{inner_nodes, inner_of, inner_step, is_inner, is_on_runs, is_standing}
+use Rattle.drawing_search.proofs.Common.{keeps_lifted, keeps_standing, nowhere, point_of_node, same_bounds, same_walk}
+use Rattle.drawing_search.proofs.Common.{to_stands, true≢false, walk_in, with_piece, with_pieces, without_run, AreAlike}
+use Rattle.drawing_search.proofs.Common.{AreBeside, AreTakable, Chain, ChainStep, GraphParts, GridPoint, In, IsClearFor}
+use Rattle.drawing_search.proofs.Common.{IsConsistent, IsLaidOn, IsLegalSketch, IsRun, NodeId, PlainWalk, SegId, Sketch}
 use Rattle.drawing_search.proofs.Gained.{leads_where, IsBetweenSteps}
 use Rattle.drawing_search.proofs.LaidAll.{same_standing_points}
 use Rattle.drawing_search.proofs.Lifts.{inner_from, inner_true, on_from, on_true}

@@ -1,29 +1,12 @@
 -- Runs of an attempt are laid one after another: what is known between two of them, and how it ends.
 use Rattle.std.proofs.Common.{◌≡◌, refl, sym, ◌∙◌, ap, ap₂, subst, ℕ, zero, suc, ◌+◌, ◌-◌, ◌<◌, ◌≤◌, true, false, cond, eqb, min, nat_lt, List, [], ◌∷◌, length, ◌++◌, drop, fold, take, get_or, Some, None, inl, arith}
-use Rattle.std.proofs.lemmas.Bool.{lt-ltb, true≢false}
-use Rattle.std.proofs.lemmas.List.{drop_all, drop_more, take_more}
-use Rattle.std.specs.List.{list_any}
-use Rattle.map_base.specs.declared.ids.NodeId.{NodeId}
-use Rattle.graph_core.specs.declared.parts.GraphParts.{GraphParts}
-use Rattle.graph_core.specs.Consistent.{IsConsistent}
-use Rattle.line_chains.specs.declared.chain.Chain.{Chain}
-use Rattle.line_chains.specs.declared.chain.ChainStep.{ChainStep}
-use Rattle.line_chains.specs.Chains.{end_of}
-use Rattle.octi_grid.specs.declared.point.GridPoint.{GridPoint}
-use Rattle.octi_grid.proofs.Members.{any_at, any_from, false_from, In}
-use Rattle.segment_router.proofs.Places.{all_in, in_at}
-use Rattle.drawing_weights.specs.Scales.{Scale}
-use Rattle.run_laying.specs.Attempts.{inner_nodes, is_on_runs}
-use Rattle.run_laying.specs.Laying.{all_laid, if_laid, laid, Sketch}
-use Rattle.run_laying.specs.Runs.{AreBeside, IsRun}
-use Rattle.run_laying.specs.Sketches.{point_of_node, IsFreeFor, IsLegalSketch}
-use Rattle.run_laying.proofs.Attempted.{laid_on, IsClearFor}
-use Rattle.drawing_search.specs.declared.least.LeastTurns.{LeastTurns}
-use Rattle.drawing_search.specs.Alike.{AreAlike}
-use Rattle.drawing_search.specs.Bounds.{gains_at_least, least_between, HaveBounds, IsBoundOf}
-use Rattle.drawing_search.specs.Changes.{without_run, AreLayable, AreTakable}
-use Rattle.drawing_search.specs.Gains.{run_gain, sketch_weight}
-use Rattle.drawing_search.specs.Tries.{if_below, AreAllLaid}
+use Rattle.drawing_search.proofs.Common.{all_in, all_laid, any_at, any_from, drop_all, drop_more, end_of, false_from}
+use Rattle.drawing_search.proofs.Common.{gains_at_least, if_below, if_laid, in_at, inner_nodes, is_on_runs, laid}
+use Rattle.drawing_search.proofs.Common.{laid_on, least_between, list_any, lt-ltb, point_of_node, run_gain}
+use Rattle.drawing_search.proofs.Common.{sketch_weight, take_more, true≢false, without_run, AreAlike, AreAllLaid}
+use Rattle.drawing_search.proofs.Common.{AreBeside, AreLayable, AreTakable, Chain, ChainStep, GraphParts, GridPoint}
+use Rattle.drawing_search.proofs.Common.{HaveBounds, In, IsBoundOf, IsClearFor, IsConsistent, IsFreeFor, IsLegalSketch}
+use Rattle.drawing_search.proofs.Common.{IsRun, LeastTurns, NodeId, Scale, Sketch}
 use Rattle.drawing_search.proofs.LaidBack.{none_so_far, one_more_so_far, so_far_alike, so_far_takable, IsSoFar}
 use Rattle.drawing_search.proofs.LayingAll.{least_of, next_gained, next_ready, no_room, same_least, IsReady}
 use Rattle.drawing_search.proofs.LaySteps.{clear_of}

@@ -1,25 +1,10 @@
 -- Runs of an attempt are laid one after another, and given up as soon as the drawing can't get lighter by it.
 use Rattle.std.proofs.Common.{◌≡◌, refl, sym, ◌∙◌, ap, subst, ℕ, ◌+◌, ◌≤◌, Bool, true, false, cond, nat_le, nat_lt, List, ◌∷◌, Option, Some, None, inl, inr, arith, []}
-use Rattle.std.proofs.lemmas.Bool.{le-leb}
-use Rattle.std.proofs.lemmas.Bool.Decides.{nat_tests}
-use Rattle.map_base.specs.declared.ids.NodeId.{NodeId}
-use Rattle.graph_core.specs.declared.parts.GraphParts.{GraphParts}
-use Rattle.graph_core.specs.Consistent.{IsConsistent}
-use Rattle.line_chains.specs.declared.chain.Chain.{Chain}
-use Rattle.octi_grid.specs.declared.point.GridPoint.{GridPoint}
-use Rattle.octi_grid.specs.Walks.{cost_of, PlainWalk}
-use Rattle.octi_grid.proofs.Members.{In}
-use Rattle.walk_search.specs.Routes.{if_within}
-use Rattle.drawing_weights.specs.Scales.{Scale}
-use Rattle.run_laying.specs.Laying.{all_laid, board_under, if_laid, laid, laid_along, run_walk, Sketch}
-use Rattle.run_laying.specs.Runs.{AreBeside, IsRun}
-use Rattle.run_laying.specs.Sketches.{point_of_node, IsLegalSketch}
-use Rattle.run_laying.proofs.Attempted.{beside_off, laid_on, still_clear, IsClearFor, IsLaidOn}
-use Rattle.drawing_search.specs.declared.least.LeastTurns.{LeastTurns}
-use Rattle.drawing_search.specs.Bounds.{gains_at_least, HaveBounds}
-use Rattle.drawing_search.specs.Gains.{run_gain, sketch_weight}
-use Rattle.drawing_search.specs.Tries.{if_below}
-use Rattle.drawing_search.specs.Trying.{laid_within}
+use Rattle.drawing_search.proofs.Common.{all_laid, beside_off, board_under, cost_of, gains_at_least, if_below, if_laid}
+use Rattle.drawing_search.proofs.Common.{if_within, laid, laid_along, laid_on, laid_within, le-leb, nat_tests}
+use Rattle.drawing_search.proofs.Common.{point_of_node, run_gain, run_walk, sketch_weight, still_clear, AreBeside}
+use Rattle.drawing_search.proofs.Common.{Chain, GraphParts, GridPoint, HaveBounds, In, IsClearFor, IsConsistent}
+use Rattle.drawing_search.proofs.Common.{IsLaidOn, IsLegalSketch, IsRun, LeastTurns, NodeId, PlainWalk, Scale, Sketch}
 use Rattle.drawing_search.proofs.LaidAll.{bounds_still, gained, gains_stay, more_walks, IsGained}
 
 -- runs that may be laid on a sketch, with their bounds

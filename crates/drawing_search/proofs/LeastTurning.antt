@@ -1,24 +1,12 @@
 -- The bounds of a run are the least over all ports that its ends may have.
 use Rattle.std.proofs.Common.{◌≡◌, refl, sym, ◌∙◌, ap, ℕ, ◌+◌, ◌*◌, ◌<◌, Bool, true, false, cond, eqb, min, List, [], ◌∷◌, ◌++◌, length, filter, fold, map, get_or, Option, Some, None, arith, ap₂, ◌≤◌, ◌⊎◌, inl, inr, replicate}
-use Rattle.std.proofs.lemmas.List.FromFn.{get_or-map-range_with_len, length-map-range_with_len, fill_by_all}
-use Rattle.std.proofs.lemmas.List.Sums.{fold-append}
-use Rattle.std.specs.Int.{bit_at}
-use Rattle.std.specs.List.{flat_map, range_with_len}
-use Rattle.std.specs.Prelude.{slice_index}
-use Rattle.std.proofs.lemmas.Bool.{cases_lt}
-use Rattle.std.proofs.lemmas.List.{get_or-replicate, get_or_past}
-use Rattle.graph_core.specs.declared.parts.GraphParts.{GraphParts}
-use Rattle.line_chains.specs.declared.chain.Chain.{Chain}
-use Rattle.line_chains.specs.Chains.{end_of}
-use Rattle.octi_grid.specs.declared.dir.Dir.{Dir}
-use Rattle.octi_grid.specs.Ways.{number_of, reverse_of}
-use Rattle.walk_search.specs.Routes.{directions}
-use Rattle.drawing_weights.specs.Scales.{Scale}
-use Rattle.run_laying.specs.Laying.{first_seg_of, last_seg_of, Sketch}
-use Rattle.drawing_search.specs.declared.least.LeastTurns.{LeastTurns}
-use Rattle.drawing_search.specs.Bounds.{overs_by, with_first_by, with_last_by, with_walk_by, AreOvers, IsLeastOf, IsSmallLeast}
-use Rattle.drawing_search.specs.Gains.{turns_by}
-use Rattle.drawing_search.specs.Least.{allowed_dirs, free_nodes, least_beside, least_by, never, ports_for, turn_price, turns_at_least}
+use Rattle.drawing_search.proofs.Common.{allowed_dirs, bit_at, cases_lt, directions, end_of, fill_by_all, first_seg_of}
+use Rattle.drawing_search.proofs.Common.{flat_map, fold-append, free_nodes, get_or-map-range_with_len, get_or-replicate}
+use Rattle.drawing_search.proofs.Common.{get_or_past, last_seg_of, least_beside, least_by, length-map-range_with_len}
+use Rattle.drawing_search.proofs.Common.{never, number_of, overs_by, ports_for, range_with_len, reverse_of, slice_index}
+use Rattle.drawing_search.proofs.Common.{turn_price, turns_at_least, turns_by, with_first_by, with_last_by}
+use Rattle.drawing_search.proofs.Common.{with_walk_by, AreOvers, Chain, Dir, GraphParts, IsLeastOf, IsSmallLeast}
+use Rattle.drawing_search.proofs.Common.{LeastTurns, Scale, Sketch}
 use Rattle.drawing_search.proofs.PutBack.{same_list}
 
 -- a walk that is taken into account

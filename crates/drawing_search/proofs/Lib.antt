@@ -1,3 +1,4 @@
+mod Common
 -- how the board of a sketch changes, and what it is when something is taken off
 mod BoardsOf
 mod TakenOff

@@ -1,38 +1,17 @@
 -- A group is taken off a whole drawing: its runs one after another, then its nodes; and each run gets its bounds.
 use Rattle.std.proofs.Common.{◌≡◌, sym, ◌∙◌, ap, ap₂, subst, ℕ, ◌+◌, ◌<◌, ◌≤◌, true, List, [], ◌∷◌, ◌++◌, length, fold, map, take, get_or, arith, length-append}
-use Rattle.std.proofs.lemmas.List.{flat_map_more, map_more, take_all, take_more}
 use Rattle.std.proofs.lemmas.List.Elements.{All-push}
-use Rattle.std.proofs.lemmas.List.Sums.{fold_more}
-use Rattle.std.specs.List.{flat_map}
-use Rattle.std.specs.Prelude.{All}
-use Rattle.map_base.specs.declared.ids.NodeId.{NodeId}
-use Rattle.map_base.specs.declared.ids.SegId.{SegId}
-use Rattle.graph_core.specs.declared.parts.GraphParts.{GraphParts}
-use Rattle.line_chains.specs.declared.chain.Chain.{Chain}
-use Rattle.octi_grid.specs.declared.point.GridPoint.{GridPoint}
-use Rattle.octi_grid.specs.Walks.{PlainWalk}
-use Rattle.segment_router.proofs.Places.{in_at}
-use Rattle.segment_router.proofs.SettledLemmas.{nowhere}
-use Rattle.drawing_weights.specs.Scales.{Scale, scale_of}
-use Rattle.grid_board.specs.Points.{is_near}
-use Rattle.run_laying.specs.Laying.{Sketch}
-use Rattle.run_laying.specs.Runs.{IsRun, IsFitting}
-use Rattle.run_laying.specs.Sketches.{is_standing, lifted, point_of_node, IsLegalSketch}
-use Rattle.run_laying.proofs.Shown.{stands_below}
-use Rattle.drawing_search.specs.declared.group.Group.{Group}
-use Rattle.drawing_search.specs.declared.least.LeastTurns.{LeastTurns}
-use Rattle.drawing_search.specs.declared.lifting.Lifted.{Lifted}
-use Rattle.drawing_search.specs.Alike.{AreAlike}
-use Rattle.drawing_search.specs.Bounds.{HaveLeast, IsLeastOf, IsSmallLeast}
-use Rattle.drawing_search.specs.Changes.{without_run, IsTakable, AreApart}
-use Rattle.drawing_search.specs.Gains.{apart_in, run_gain, sketch_weight, IsField}
-use Rattle.drawing_search.specs.Lifting.{points_along, put_back, walks_along, CanPutBack, IsLifted}
-use Rattle.drawing_search.specs.Tries.{taken_off, IsSettled}
+use Rattle.drawing_search.proofs.Common.{apart_in, attempts_in, flat_map, flat_map_more, fold_more, in_at, is_near}
+use Rattle.drawing_search.proofs.Common.{is_standing, lifted, map_more, nowhere, point_of_node, points_along, put_back}
+use Rattle.drawing_search.proofs.Common.{run_gain, scale_of, sketch_weight, stands_below, take_all, take_more}
+use Rattle.drawing_search.proofs.Common.{taken_off, walks_along, without_run, All, AreAlike, AreApart, CanPutBack}
+use Rattle.drawing_search.proofs.Common.{Chain, GraphParts, GridPoint, Group, HaveLeast, IsField, IsFitting, IsLeastOf}
+use Rattle.drawing_search.proofs.Common.{IsLegalSketch, IsLifted, IsRun, IsSettled, IsSmallLeast, IsTakable, LeastTurns}
+use Rattle.drawing_search.proofs.Common.{Lifted, NodeId, PlainWalk, Scale, SegId, Sketch}
 use Rattle.drawing_search.proofs.Lifts.{all_liftable, can_put_back, legal_then, lifted_at, node_weighs, off_alike, put_back_is, run_weighs_then, same_points_along, same_walks_along, taken, IsGroup}
 use Rattle.drawing_search.proofs.Nearby.{stands_near}
 use Rattle.drawing_search.proofs.TakenBack.{lift_legal, lift_points, runs_points}
 use Rattle.drawing_search.specs.declared.gains.Field.{Field}
-use Rattle.drawing_search.specs.Searched.{attempts_in}
 use Rattle.drawing_search.proofs.TriedGroups.{group_is}
 
 -- one run more has its bounds

@@ -1,39 +1,21 @@
 -- What is left of a whole drawing from which runs are taken off, and then nodes that are to move: what it weighs, and that all
 -- of it can be put back.
 use Rattle.std.proofs.Common.{◌≡◌, refl, sym, ◌∙◌, ap, ap₂, subst, ℕ, zero, suc, ◌+◌, ◌*◌, ◌<◌, Bool, true, false, not, cond, eqb, ◌&&◌, List, [], ◌∷◌, ◌++◌, length, fold, map, take, get_or, Option, Some, None, ◌⊎◌, inl, inr, arith, get_or-set_same, get_or-set_other}
-use Rattle.std.proofs.lemmas.Bool.{cases_eq, eq-eqb, eqb-true, ne_eqb, true≢false}
-use Rattle.std.proofs.lemmas.List.FromFn.{get_or-map-range_with_len, length-map-range_with_len}
-use Rattle.std.specs.List.{cons_option, filter_map, flat_map, list_all, list_any, range_with_len, sum_by}
-use Rattle.std.specs.Prelude.{option_map}
-use Rattle.map_base.specs.declared.ids.NodeId.{NodeId}
-use Rattle.map_base.specs.declared.ids.SegId.{SegId}
-use Rattle.graph_core.specs.declared.parts.GraphParts.{GraphParts}
-use Rattle.graph_core.specs.Consistent.{IsConsistent}
-use Rattle.line_chains.specs.declared.chain.Chain.{Chain}
-use Rattle.line_chains.specs.declared.chain.ChainStep.{ChainStep}
-use Rattle.line_chains.specs.Chains.{end_after, end_of, round_of}
-use Rattle.octi_grid.specs.declared.point.GridPoint.{GridPoint}
-use Rattle.octi_grid.specs.Walks.{points_of, PlainWalk}
-use Rattle.octi_grid.proofs.Members.{any_at, any_from, in_append, in_flat_map, from_flat_map, In}
-use Rattle.grid_board.specs.declared.bounds.Bounds.{Bounds}
-use Rattle.grid_board.specs.Boards.{contains}
-use Rattle.segment_router.proofs.Places.{all_in, in_at}
-use Rattle.segment_router.proofs.SettledLemmas.{nowhere}
-use Rattle.drawing_weights.specs.Scales.{Scale}
-use Rattle.run_laying.specs.Attempts.{has_node, inner_nodes, is_inner, is_on_runs, Attempt}
-use Rattle.run_laying.specs.Laying.{Sketch}
-use Rattle.run_laying.specs.Runs.{AreBeside, AreOnce, AreSteps, IsFitting, IsRun}
-use Rattle.run_laying.specs.Sketches.{is_standing, lifted, point_of_node, walk_in, IsEndOf, IsLegalSketch}
-use Rattle.run_laying.proofs.Attempted.{beside_off, HasWalk}
-use Rattle.run_laying.proofs.Kept.{first_leads}
-use Rattle.run_laying.proofs.RunFacts.{contains_in, end_below, in_round, inner_of, inner_off, leads_from, leads_to, once_first, step_of}
-use Rattle.run_laying.proofs.Shown.{stands_below}
-use Rattle.drawing_search.specs.Alike.{AreAlike}
-use Rattle.drawing_search.specs.Changes.{stood_at, without_run, without_walks, AreApart, AreLiftable, AreTakable, CanStand, CanWalk, IsTakable}
-use Rattle.drawing_search.specs.Gains.{apart_in, node_weight_in, run_gain, segment_weight, sketch_weight, turns_in}
-use Rattle.drawing_search.specs.Lifting.{points_along, put_back, walk_along, walks_along, CanPutBack}
-use Rattle.drawing_search.specs.Tries.{stays_standing, taken_off, walk_left}
-use Rattle.drawing_search.specs.Trying.{IsWhole}
+use Rattle.drawing_search.proofs.Common.{all_in, any_at, any_from, apart_in, beside_off, cases_eq, cons_option}
+use Rattle.drawing_search.proofs.Common.{contains, contains_in, end_after, end_below, end_of, eq-eqb, eqb-true}
+use Rattle.drawing_search.proofs.Common.{filter_map, first_leads, flat_map, from_flat_map, get_or-map-range_with_len}
+use Rattle.drawing_search.proofs.Common.{has_node, in_append, in_at, in_flat_map, in_round, inner_nodes, inner_of}
+use Rattle.drawing_search.proofs.Common.{inner_off, is_inner, is_on_runs, is_standing, leads_from, leads_to}
+use Rattle.drawing_search.proofs.Common.{length-map-range_with_len, lifted, list_all, list_any, ne_eqb, node_weight_in}
+use Rattle.drawing_search.proofs.Common.{nowhere, once_first, option_map, point_of_node, points_along, points_of}
+use Rattle.drawing_search.proofs.Common.{put_back, range_with_len, round_of, run_gain, segment_weight, sketch_weight}
+use Rattle.drawing_search.proofs.Common.{stands_below, stays_standing, step_of, stood_at, sum_by, taken_off, true≢false}
+use Rattle.drawing_search.proofs.Common.{turns_in, walk_along, walk_in, walk_left, walks_along, without_run}
+use Rattle.drawing_search.proofs.Common.{without_walks, AreAlike, AreApart, AreBeside, AreLiftable, AreOnce, AreSteps}
+use Rattle.drawing_search.proofs.Common.{AreTakable, Attempt, Bounds, CanPutBack, CanStand, CanWalk, Chain, ChainStep}
+use Rattle.drawing_search.proofs.Common.{GraphParts, GridPoint, HasWalk, In, IsConsistent, IsEndOf, IsFitting}
+use Rattle.drawing_search.proofs.Common.{IsLegalSketch, IsRun, IsTakable, IsWhole, NodeId, PlainWalk, Scale, SegId}
+use Rattle.drawing_search.proofs.Common.{Sketch}
 use Rattle.drawing_search.proofs.Growing.{at_one, one_more, same_sum}
 use Rattle.drawing_search.proofs.PutBack.{all_back, can_stand_each, can_walk_each, flag_still, same_list, stood_bounds, stood_flags, stood_points, stood_walks, AreGivenOnce, ArePutOnce, IsGiven, IsPut}
 use Rattle.drawing_search.proofs.Restored.{run_weighs}

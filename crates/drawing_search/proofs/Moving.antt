@@ -1,43 +1,23 @@
 -- Nodes that were taken off a whole drawing stand again, moved by a vector: what comes of it is what an attempt lays its runs on.
 use Rattle.std.proofs.Common.{◌≡◌, refl, sym, ◌∙◌, ap, ap₂, subst, ℕ, ◌+◌, ◌*◌, ◌<◌, Bool, true, false, not, cond, eqb, ◌&&◌, ◌||◌, List, [], ◌∷◌, length, fold, map, get_or, Option, Some, None, ◌⊎◌, inl, inr, arith, length-set, get_or-set_same, get_or-set_other, zero, suc}
-use Rattle.std.proofs.lemmas.Bool.{and_from, and_parts, cases_eq, eq-eqb, ne_eqb, not-true, true≢false}
-use Rattle.std.proofs.lemmas.List.{get_or_default}
-use Rattle.std.proofs.lemmas.List.Sums.{sum_by-cons}
-use Rattle.std.proofs.lemmas.List.FromFn.{get_or-map-range_with_len, length-map-range_with_len}
-use Rattle.std.specs.List.{list_all, list_any, range_with_len, sum_by}
-use Rattle.map_base.specs.declared.ids.NodeId.{NodeId}
-use Rattle.map_base.specs.declared.ids.SegId.{SegId}
-use Rattle.graph_core.specs.declared.parts.GraphParts.{GraphParts}
-use Rattle.graph_core.specs.Consistent.{IsConsistent}
-use Rattle.line_chains.specs.declared.chain.Chain.{Chain}
-use Rattle.octi_grid.specs.declared.point.GridPoint.{GridPoint}
-use Rattle.octi_grid.specs.Ways.{are_one, doubled}
-use Rattle.octi_grid.specs.Walks.{doubled_of, points_of, PlainWalk}
-use Rattle.octi_grid.specs.Legal.{is_among, is_even}
-use Rattle.octi_grid.proofs.Members.{among_at, among_from, any_at, any_from, are_one_from, one_point, same_test, In}
-use Rattle.grid_board.specs.Boards.{contains}
-use Rattle.segment_router.specs.Routes.{has_doubled}
 use Rattle.segment_router.proofs.ClearNodes.{undoubled}
-use Rattle.segment_router.proofs.SettledLemmas.{nowhere}
-use Rattle.drawing_weights.proofs.ShortWalks.{doubled_there}
-use Rattle.drawing_weights.specs.Scales.{apart_weight_by, Scale}
-use Rattle.run_laying.specs.Attempts.{attempted_on, comes_over_point, has_node, is_inner, may_move, may_move_to, stands_at, without_runs, Attempt}
-use Rattle.run_laying.specs.Drawings.{IsOnBoard}
-use Rattle.run_laying.specs.Laying.{board_of, standing_points, Sketch}
-use Rattle.run_laying.specs.Runs.{IsFitting}
-use Rattle.run_laying.specs.Sketches.{is_standing, lifted, point_of_node, stood, walk_in, IsEndOf, IsLegalSketch}
-use Rattle.run_laying.proofs.Attempted.{IsClearFor}
 use Rattle.run_laying.proofs.Begun.{begun_legal, in_range as in_numbers}
-use Rattle.run_laying.proofs.Kept.{clear_for, kept_sketch, IsKept}
-use Rattle.run_laying.proofs.RunFacts.{contains_in, in_round}
-use Rattle.run_laying.proofs.Shown.{in_standing, shown_node}
-use Rattle.run_laying.proofs.Whole.{whole_legal, IsComplete}
-use Rattle.drawing_search.specs.declared.group.Vector.{Vector}
-use Rattle.drawing_search.specs.Alike.{AreAlike}
-use Rattle.drawing_search.specs.Changes.{all_moved, has_room, is_open, moved_by, stood_at, AreApart, AreLiftable, CanStand, CanStandEach}
-use Rattle.drawing_search.specs.Gains.{apart_in, first_point, node_weight_in, segment_weight, sketch_weight, turns_in}
-use Rattle.drawing_search.specs.Tries.{point_then, stands_then, stays_standing, taken_off, walk_left, without}
-use Rattle.drawing_search.specs.Trying.{walks_of, IsWhole}
+use Rattle.drawing_search.proofs.Common.{all_moved, among_at, among_from, and_from, and_parts, any_at, any_from}
+use Rattle.drawing_search.proofs.Common.{apart_in, apart_weight_by, are_one, are_one_from, attempted_on, board_of}
+use Rattle.drawing_search.proofs.Common.{cases_eq, clear_for, comes_over_point, contains, contains_in, doubled}
+use Rattle.drawing_search.proofs.Common.{doubled_of, doubled_there, eq-eqb, first_point, get_or-map-range_with_len}
+use Rattle.drawing_search.proofs.Common.{get_or_default, has_doubled, has_node, has_room, in_round, in_standing}
+use Rattle.drawing_search.proofs.Common.{is_among, is_even, is_inner, is_open, is_standing, kept_sketch}
+use Rattle.drawing_search.proofs.Common.{length-map-range_with_len, lifted, list_all, list_any, may_move, may_move_to}
+use Rattle.drawing_search.proofs.Common.{moved_by, ne_eqb, node_weight_in, not-true, nowhere, one_point, point_of_node}
+use Rattle.drawing_search.proofs.Common.{point_then, points_of, range_with_len, same_test, segment_weight, shown_node}
+use Rattle.drawing_search.proofs.Common.{sketch_weight, standing_points, stands_at, stands_then, stays_standing, stood}
+use Rattle.drawing_search.proofs.Common.{stood_at, sum_by, sum_by-cons, taken_off, true≢false, turns_in, walk_in}
+use Rattle.drawing_search.proofs.Common.{walk_left, walks_of, whole_legal, without, without_runs, AreAlike, AreApart}
+use Rattle.drawing_search.proofs.Common.{AreLiftable, Attempt, CanStand, CanStandEach, Chain, GraphParts, GridPoint, In}
+use Rattle.drawing_search.proofs.Common.{IsClearFor, IsComplete, IsConsistent, IsEndOf, IsFitting, IsKept}
+use Rattle.drawing_search.proofs.Common.{IsLegalSketch, IsOnBoard, IsWhole, NodeId, PlainWalk, Scale, SegId, Sketch}
+use Rattle.drawing_search.proofs.Common.{Vector}
 use Rattle.drawing_search.proofs.Growing.{at_one, in_range, one_more, same_sum}
 use Rattle.drawing_search.proofs.Lifts.{group_of, IsGroup, node_from, node_true}
 use Rattle.drawing_search.proofs.OnWalks.{sketch_by_walks, without_is}

@@ -1,26 +1,11 @@
 -- What stands on the board of a legal sketch lies near the origin, and its walks are short.
 use Rattle.std.proofs.Common.{◌≡◌, ◌∙◌, sym, ap, ℕ, Bool, true, false, List, [], ◌∷◌, get_or, Some, ◌⊎◌, inl, inr, arith, get_or-set_other}
-use Rattle.std.proofs.lemmas.Bool.{and_from, cases_eq, le-leb}
-use Rattle.std.proofs.lemmas.Int.{ints}
-use Rattle.std.specs.Prelude.{nat_le, unsigned_abs, All}
-use Rattle.map_base.specs.declared.ids.NodeId.{NodeId}
-use Rattle.map_base.specs.declared.ids.SegId.{SegId}
-use Rattle.graph_core.specs.declared.parts.GraphParts.{GraphParts}
-use Rattle.line_chains.specs.declared.chain.Chain.{Chain}
-use Rattle.octi_grid.specs.declared.point.GridPoint.{GridPoint}
-use Rattle.octi_grid.specs.Walks.{PlainWalk}
-use Rattle.octi_grid.proofs.Members.{In}
-use Rattle.grid_board.specs.declared.bounds.Bounds.{Bounds}
-use Rattle.grid_board.specs.Boards.{contains, AreBounds}
-use Rattle.grid_board.specs.Points.{is_near}
 use Rattle.grid_board.proofs.Within.{inside_facts}
-use Rattle.segment_router.proofs.Places.{in_at}
-use Rattle.drawing_weights.specs.Drawn.{IsShort}
-use Rattle.drawing_weights.proofs.ShortWalks.{short_inside}
-use Rattle.run_laying.specs.Attempts.{inner_nodes}
-use Rattle.run_laying.specs.Laying.{Sketch}
-use Rattle.run_laying.specs.Sketches.{is_standing, lifted, point_of_node, walk_in, IsLegalSketch}
-use Rattle.drawing_search.specs.Changes.{without_walks, AreLiftable, IsLiftable, IsTakable}
+use Rattle.drawing_search.proofs.Common.{and_from, cases_eq, contains, in_at, inner_nodes, ints, is_near, is_standing}
+use Rattle.drawing_search.proofs.Common.{le-leb, lifted, nat_le, point_of_node, short_inside, unsigned_abs, walk_in}
+use Rattle.drawing_search.proofs.Common.{without_walks, All, AreBounds, AreLiftable, Bounds, Chain, GraphParts}
+use Rattle.drawing_search.proofs.Common.{GridPoint, In, IsLegalSketch, IsLiftable, IsShort, IsTakable, NodeId}
+use Rattle.drawing_search.proofs.Common.{PlainWalk, SegId, Sketch}
 use Rattle.drawing_search.proofs.Takable.{same_stand}
 
 pub on_board_near : (b : Bounds) → AreBounds b → (p : GridPoint) → contains b p ≡ true → is_near 2000 p ≡ true

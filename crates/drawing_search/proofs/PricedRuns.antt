@@ -1,42 +1,19 @@
 -- What the walk of a run weighs, cut into pieces: its steps, and a price for each turn of 45 degrees, but for turns at nodes
 -- that no line goes over.
 use Rattle.std.proofs.Common.{◌≡◌, refl, sym, ◌∙◌, ap, ap₂, ℕ, suc, ◌+◌, ◌*◌, ◌<◌, ◌≤◌, Bool, true, false, cond, eqb, ◌||◌, List, [], ◌∷◌, length, filter, Option, Some, None, option_map, slice_get, ◌⊎◌, inl, inr, arith, get_or-set_same, length-set}
-use Rattle.std.proofs.Math.Nat.{mul-le-mul_left, mul-le-mul_right}
-use Rattle.std.proofs.lemmas.Bool.{cases_Bool, eq-eqb, or_right}
-use Rattle.std.proofs.lemmas.List.Sums.{sum_by-cons}
-use Rattle.std.specs.List.{sum_by}
-use Rattle.map_base.specs.declared.ids.NodeId.{NodeId}
-use Rattle.map_base.specs.declared.ids.SegId.{SegId}
-use Rattle.graph_core.specs.declared.parts.GraphParts.{GraphParts}
-use Rattle.graph_core.specs.Consistent.{IsConsistent}
-use Rattle.line_chains.specs.declared.chain.ChainStep.{ChainStep}
 use Rattle.line_chains.specs.Chains.{ends_of}
-use Rattle.octi_grid.specs.declared.dir.Dir.{Dir}
-use Rattle.octi_grid.specs.declared.point.GridPoint.{GridPoint}
-use Rattle.octi_grid.specs.Costs.{turn_between}
-use Rattle.octi_grid.specs.Ways.{reverse_of}
-use Rattle.octi_grid.specs.Walks.{end_port, last_of, start_port, PlainWalk}
-use Rattle.octi_grid.proofs.CostLemmas.{turn_small}
-use Rattle.octi_grid.proofs.Members.{In}
-use Rattle.segment_router.specs.Routes.{port_at_node, port_by}
-use Rattle.drawing_weights.specs.Scales.{turn_over, walk_weight_by, Scale}
-use Rattle.drawing_weights.specs.Weights.{turns_of}
-use Rattle.run_laying.specs.Attempts.{inner_nodes}
-use Rattle.run_laying.specs.Laying.{board_under, from_low, with_piece, with_pieces, Sketch}
-use Rattle.run_laying.specs.Pieces.{reversed_walk}
-use Rattle.run_laying.specs.Runs.{AreOnce, AreSteps, LeadsTo, MeetAlone}
-use Rattle.run_laying.specs.Sketches.{walk_in}
-use Rattle.run_laying.proofs.Cuts.{first_start_port}
-use Rattle.run_laying.proofs.LaidRuns.{same_walk, IsCut}
-use Rattle.run_laying.proofs.RunFacts.{end_below, leads_to, once_first}
-use Rattle.run_laying.proofs.Reversed.{twice}
-use Rattle.run_laying.proofs.Turned.{port_from, port_to, turned_of}
-use Rattle.drawing_search.specs.Gains.{has_segment, pairs_at, segment_weight, steps_gain, turn_if, turn_in, turns_from, walk_weight_if}
-use Rattle.drawing_search.specs.Least.{free_nodes, is_free_node}
+use Rattle.drawing_search.proofs.Common.{board_under, cases_Bool, end_below, end_port, eq-eqb, first_leads}
+use Rattle.drawing_search.proofs.Common.{first_start_port, free_nodes, from_low, has_segment, inner_nodes, is_free_node}
+use Rattle.drawing_search.proofs.Common.{last_of, leads_to, mul-le-mul_left, mul-le-mul_right, no_loop, once_first}
+use Rattle.drawing_search.proofs.Common.{or_right, pairs_at, port_at_node, port_by, port_from, port_to, reverse_of}
+use Rattle.drawing_search.proofs.Common.{reversed_walk, same_walk, segment_weight, start_port, steps_gain, sum_by}
+use Rattle.drawing_search.proofs.Common.{sum_by-cons, turn_back, turn_between, turn_if, turn_in, turn_over, turn_small}
+use Rattle.drawing_search.proofs.Common.{turned_of, turns_from, turns_of, twice, walk_in, walk_weight_by}
+use Rattle.drawing_search.proofs.Common.{walk_weight_if, with_piece, with_pieces, AreOnce, AreSteps, ChainStep, Dir}
+use Rattle.drawing_search.proofs.Common.{GraphParts, GridPoint, In, IsConsistent, IsCut, LeadsTo, MeetAlone, NodeId}
+use Rattle.drawing_search.proofs.Common.{PlainWalk, Scale, SegId, Sketch}
 use Rattle.drawing_search.proofs.FieldFacts.{pair_joined, IsJoined, of_two}
 use Rattle.drawing_search.proofs.TurnSums.{cost_parts, steps_append, steps_back, steps_cost, turn_over_cut, turn_same_back, turns_append, turns_back}
-use Rattle.run_laying.proofs.Kept.{first_leads, no_loop}
-use Rattle.walk_search.proofs.Crossing.{turn_back}
 
 -- ---- the walks of segments
 

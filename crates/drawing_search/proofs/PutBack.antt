@@ -1,16 +1,8 @@
 -- What was taken off a drawing is put back: nodes and walks, each where it was.
 use Rattle.std.proofs.Common.{◌≡◌, refl, sym, ◌∙◌, ap, ap₂, ℕ, suc, ◌<◌, true, false, List, [], ◌∷◌, length, fold, get_or, set, Option, Some, None, ◌⊎◌, inl, inr, arith, length-set, get_or-set_same, get_or-set_other}
-use Rattle.std.proofs.lemmas.Bool.{cases_eq}
-use Rattle.map_base.specs.declared.ids.NodeId.{NodeId}
-use Rattle.map_base.specs.declared.ids.SegId.{SegId}
-use Rattle.octi_grid.specs.declared.point.GridPoint.{GridPoint}
-use Rattle.octi_grid.specs.Walks.{PlainWalk}
-use Rattle.octi_grid.proofs.Members.{In}
-use Rattle.segment_router.proofs.SettledLemmas.{nowhere}
-use Rattle.run_laying.specs.Laying.{Sketch}
-use Rattle.run_laying.specs.Sketches.{is_standing, point_of_node, walk_in}
-use Rattle.drawing_search.specs.Changes.{stood_at, walked_by, CanStand, CanStandEach, CanWalk, CanWalkEach}
-use Rattle.drawing_search.specs.Lifting.{put_back}
+use Rattle.drawing_search.proofs.Common.{cases_eq, is_standing, nowhere, point_of_node, put_back, stood_at, walk_in}
+use Rattle.drawing_search.proofs.Common.{walked_by, CanStand, CanStandEach, CanWalk, CanWalkEach, GridPoint, In, NodeId}
+use Rattle.drawing_search.proofs.Common.{PlainWalk, SegId, Sketch}
 
 -- lists of one length are the same where they are at each place
 pub same_list : {X : Type 0} (d : X) (xs ys : List X) → length xs ≡ length ys → ((i : ℕ) → i < length ys → get_or xs i d ≡ get_or ys i d) → xs ≡ ys

@@ -1,34 +1,16 @@
 -- A run that stands is one that is laid along its own walks: so a drawing weighs what it weighs without the run, and what the
 -- run adds.
 use Rattle.std.proofs.Common.{◌≡◌, refl, sym, ◌∙◌, ap, subst, ℕ, suc, ◌+◌, ◌<◌, true, false, cond, List, [], ◌∷◌, length, get_or, set, Option, Some, None, ◌⊎◌, inl, inr, arith, length-set, get_or-set_same, get_or-set_other}
-use Rattle.std.proofs.lemmas.Bool.{cases_eq, eq-eqb, ne_eqb}
-use Rattle.std.proofs.lemmas.List.{set-get_or}
-use Rattle.std.specs.Prelude.{unwrap_or}
-use Rattle.map_base.specs.declared.ids.NodeId.{NodeId}
-use Rattle.map_base.specs.declared.ids.SegId.{SegId}
-use Rattle.graph_core.specs.declared.parts.GraphParts.{GraphParts}
-use Rattle.graph_core.specs.Consistent.{IsConsistent}
-use Rattle.line_chains.specs.declared.chain.Chain.{Chain}
-use Rattle.line_chains.specs.declared.chain.ChainStep.{ChainStep}
-use Rattle.line_chains.specs.Chains.{end_of, ends_of}
-use Rattle.octi_grid.specs.declared.point.GridPoint.{GridPoint}
-use Rattle.octi_grid.specs.Walks.{end_point, PlainWalk}
-use Rattle.octi_grid.proofs.Members.{In}
-use Rattle.segment_router.proofs.SettledLemmas.{nowhere}
-use Rattle.drawing_weights.specs.Scales.{Scale}
-use Rattle.run_laying.specs.Attempts.{inner_nodes}
-use Rattle.run_laying.specs.Laying.{from_low, with_piece, with_pieces, Sketch}
-use Rattle.run_laying.specs.Pieces.{reversed_walk}
-use Rattle.run_laying.specs.Runs.{AreSteps, LeadsTo}
-use Rattle.run_laying.specs.Sketches.{is_standing, point_of_node, walk_in, IsLegalSketch}
-use Rattle.run_laying.proofs.Attempted.{HasWalk, IsClearFor}
-use Rattle.run_laying.proofs.Kept.{first_leads, first_outer, inner_step, last_outer}
-use Rattle.run_laying.proofs.Reversed.{back_again, back_end}
-use Rattle.run_laying.proofs.RunFacts.{end_below, leads_to, IsOff}
+use Rattle.line_chains.specs.Chains.{ends_of}
+use Rattle.run_laying.proofs.RunFacts.{IsOff}
 use Rattle.run_laying.proofs.Standing.{end_stands}
-use Rattle.run_laying.proofs.Turned.{turned_of, IsTurned}
-use Rattle.drawing_search.specs.Changes.{without_run, without_walks, IsTakable}
-use Rattle.drawing_search.specs.Gains.{run_gain, sketch_weight}
+use Rattle.drawing_search.proofs.Common.{back_again, back_end, cases_eq, end_below, end_of, end_point, eq-eqb}
+use Rattle.drawing_search.proofs.Common.{first_leads, first_outer, from_low, inner_nodes, inner_step, is_standing}
+use Rattle.drawing_search.proofs.Common.{last_outer, leads_to, ne_eqb, nowhere, point_of_node, reversed_walk, run_gain}
+use Rattle.drawing_search.proofs.Common.{set-get_or, sketch_weight, turned_of, unwrap_or, walk_in, with_piece}
+use Rattle.drawing_search.proofs.Common.{with_pieces, without_run, without_walks, AreSteps, Chain, ChainStep}
+use Rattle.drawing_search.proofs.Common.{GraphParts, GridPoint, HasWalk, In, IsClearFor, IsConsistent, IsLegalSketch}
+use Rattle.drawing_search.proofs.Common.{IsTakable, IsTurned, LeadsTo, NodeId, PlainWalk, Scale, SegId, Sketch}
 use Rattle.drawing_search.proofs.Gained.{run_gained}
 use Rattle.drawing_search.proofs.PricedRuns.{leads_apart}
 use Rattle.drawing_search.proofs.PutBack.{same_list}

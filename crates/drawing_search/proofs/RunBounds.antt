@@ -1,46 +1,22 @@
 -- The bounds of runs are bounds: a run that is laid adds no less, and its walk costs no more than the limit where it adds no
 -- more than it may.
 use Rattle.std.proofs.Common.{◌≡◌, refl, sym, ◌∙◌, ap, subst, ℕ, ◌+◌, ◌-◌, ◌*◌, ◌/◌, ◌<◌, ◌≤◌, Bool, true, false, cond, eqb, nat_lt, ◌||◌, min, List, [], ◌∷◌, length, filter, fold, map, Some, option_map, ◌⊎◌, inl, inr, arith}
-use Rattle.std.proofs.Math.Nat.{mul-le-mul_left}
-use Rattle.std.proofs.lemmas.Bool.{cases_Bool, eqb-true, cases_lt}
-use Rattle.std.proofs.lemmas.Bool.Decides.{nat_tests}
-use Rattle.std.specs.Int.{bit_at}
-use Rattle.std.specs.Prelude.{slice_index}
 use Rattle.std.proofs.lemmas.Nat.{le-div}
-use Rattle.map_base.specs.declared.ids.NodeId.{NodeId}
-use Rattle.map_base.specs.declared.ids.SegId.{SegId}
-use Rattle.graph_core.specs.declared.parts.GraphParts.{GraphParts}
-use Rattle.graph_core.specs.Consistent.{IsConsistent}
-use Rattle.line_chains.specs.declared.chain.Chain.{Chain}
-use Rattle.line_chains.specs.declared.chain.ChainStep.{ChainStep}
-use Rattle.line_chains.specs.Chains.{end_after, end_of, ends_of, last_seg}
-use Rattle.octi_grid.specs.declared.dir.Dir.{Dir}
-use Rattle.octi_grid.specs.declared.point.GridPoint.{GridPoint}
-use Rattle.octi_grid.specs.Ways.{number_of, reverse_of}
-use Rattle.octi_grid.specs.Walks.{cost_of, end_point, end_port, last_of, start_port, PlainWalk}
-use Rattle.octi_grid.proofs.Members.{in_flat_map, In}
+use Rattle.line_chains.specs.Chains.{ends_of}
 use Rattle.walk_search.specs.Reaching.{reach_of}
-use Rattle.walk_search.specs.Routes.{allows, directions}
 use Rattle.walk_search.proofs.LeastReach.{reach_none}
-use Rattle.segment_router.specs.Routes.{port_at_node, port_by}
-use Rattle.drawing_weights.specs.Scales.{Scale}
-use Rattle.drawing_weights.specs.Weights.{turns_of}
 use Rattle.drawing_weights.proofs.LeastWeights.{reach_turns}
-use Rattle.run_laying.specs.Attempts.{inner_nodes}
-use Rattle.run_laying.specs.Laying.{board_under, first_seg_of, from_low, last_seg_of, with_pieces, Sketch}
-use Rattle.run_laying.specs.Runs.{AreSteps, IsRun}
-use Rattle.run_laying.specs.Sketches.{point_of_node, IsLegalSketch}
-use Rattle.run_laying.proofs.Attempted.{IsClearFor}
-use Rattle.run_laying.proofs.Cuts.{first_start_port, second_end_port, some_end, some_first}
-use Rattle.run_laying.proofs.LaidRuns.{IsCut}
-use Rattle.run_laying.proofs.Reversed.{twice}
-use Rattle.run_laying.proofs.RunFacts.{step_of}
-use Rattle.run_laying.proofs.Turned.{port_from, port_to, turned_of}
-use Rattle.run_laying.proofs.Kept.{first_leads}
-use Rattle.drawing_search.specs.declared.least.LeastTurns.{LeastTurns}
-use Rattle.drawing_search.specs.Bounds.{IsBoundOf}
-use Rattle.drawing_search.specs.Gains.{pairs_at, run_gain, steps_gain, turns_by}
-use Rattle.drawing_search.specs.Least.{allowed_dirs, free_nodes, least_beside, least_by, never, ports_for, straight_way, turn_price, turns_at_least}
+use Rattle.drawing_search.proofs.Common.{allowed_dirs, allows, bit_at, board_under, cases_Bool, cases_lt, cost_of}
+use Rattle.drawing_search.proofs.Common.{directions, end_after, end_of, end_point, end_port, eqb-true, first_leads}
+use Rattle.drawing_search.proofs.Common.{first_seg_of, first_start_port, free_nodes, from_low, in_flat_map, inner_nodes}
+use Rattle.drawing_search.proofs.Common.{last_of, last_seg, last_seg_of, least_beside, least_by, mul-le-mul_left}
+use Rattle.drawing_search.proofs.Common.{nat_tests, never, number_of, pairs_at, point_of_node, port_at_node, port_by}
+use Rattle.drawing_search.proofs.Common.{port_from, port_to, ports_for, reverse_of, run_gain, second_end_port}
+use Rattle.drawing_search.proofs.Common.{slice_index, some_end, some_first, start_port, step_of, steps_gain}
+use Rattle.drawing_search.proofs.Common.{straight_way, turn_price, turned_of, turns_at_least, turns_by, turns_of, twice}
+use Rattle.drawing_search.proofs.Common.{with_pieces, AreSteps, Chain, ChainStep, Dir, GraphParts, GridPoint, In}
+use Rattle.drawing_search.proofs.Common.{IsBoundOf, IsClearFor, IsConsistent, IsCut, IsLegalSketch, IsRun, LeastTurns}
+use Rattle.drawing_search.proofs.Common.{NodeId, PlainWalk, Scale, SegId, Sketch}
 use Rattle.drawing_search.proofs.Gained.{end_turns, from_turns}
 use Rattle.drawing_search.proofs.PricedRuns.{have_pieces, leads_apart, priced_run, HavePieces, IsPrice}
 use Rattle.drawing_search.proofs.StraightWays.{walk_turns, way_small}

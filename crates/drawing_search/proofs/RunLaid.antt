@@ -1,27 +1,10 @@
 -- One run that is laid where there is room for what it adds, or not, and is taken away again.
 use Rattle.std.proofs.Common.{◌≡◌, refl, sym, ◌∙◌, ap, subst, ℕ, ◌+◌, ◌-◌, ◌<◌, ◌≤◌, true, List, [], ◌∷◌, get_or, Some, None, ◌⊎◌, inl, inr, arith}
-use Rattle.std.proofs.lemmas.Bool.{cases_lt}
-use Rattle.std.specs.Prelude.{All}
-use Rattle.map_base.specs.declared.ids.NodeId.{NodeId}
-use Rattle.graph_core.specs.declared.parts.GraphParts.{GraphParts}
-use Rattle.graph_core.specs.Consistent.{IsConsistent}
-use Rattle.line_chains.specs.declared.chain.Chain.{Chain}
-use Rattle.line_chains.specs.Chains.{end_of}
-use Rattle.octi_grid.specs.declared.point.GridPoint.{GridPoint}
-use Rattle.octi_grid.proofs.Members.{In}
-use Rattle.segment_router.proofs.Places.{in_at}
-use Rattle.drawing_weights.specs.Scales.{Scale}
-use Rattle.run_laying.specs.Attempts.{inner_nodes}
-use Rattle.run_laying.specs.Laying.{laid, Sketch}
-use Rattle.run_laying.specs.Runs.{AreBeside, IsRun}
-use Rattle.run_laying.specs.Sketches.{is_standing, point_of_node, IsFreeFor, IsLegalSketch}
-use Rattle.run_laying.proofs.Attempted.{laid_on, IsClearFor, IsLaidOn}
-use Rattle.drawing_search.specs.declared.least.LeastTurns.{LeastTurns}
-use Rattle.drawing_search.specs.Alike.{AreAlike}
-use Rattle.drawing_search.specs.Bounds.{limit_between, IsBoundOf}
-use Rattle.drawing_search.specs.Changes.{without_run, IsTakable}
-use Rattle.drawing_search.specs.Gains.{run_gain}
-use Rattle.drawing_search.specs.Trying.{laid_within}
+use Rattle.drawing_search.proofs.Common.{cases_lt, end_of, in_at, inner_nodes, is_standing, laid, laid_on, laid_within}
+use Rattle.drawing_search.proofs.Common.{limit_between, point_of_node, run_gain, without_run, All, AreAlike, AreBeside}
+use Rattle.drawing_search.proofs.Common.{Chain, GraphParts, GridPoint, In, IsBoundOf, IsClearFor, IsConsistent}
+use Rattle.drawing_search.proofs.Common.{IsFreeFor, IsLaidOn, IsLegalSketch, IsRun, IsTakable, LeastTurns, NodeId}
+use Rattle.drawing_search.proofs.Common.{Scale, Sketch}
 use Rattle.drawing_search.proofs.LaidAll.{gained}
 use Rattle.drawing_search.proofs.LaidBack.{none_so_far, one_more_so_far, so_far_alike, so_far_takable, IsSoFar}
 use Rattle.drawing_search.proofs.LayingAll.{within_laid}

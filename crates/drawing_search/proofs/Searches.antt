@@ -1,27 +1,10 @@
 -- A search under way: passes over groups of attempts.
 use Rattle.std.proofs.Common.{◌≡◌, sym, ◌∙◌, ap, ap₂, subst, ℕ, ◌+◌, ◌<◌, ◌≤◌, List, length, drop, min, get_or, arith, refl, zero, suc, cond, [], ◌∷◌, Option}
-use Rattle.std.proofs.lemmas.List.{drop_all, drop_more}
-use Rattle.std.proofs.lemmas.List.Sums.{fold-append}
-use Rattle.std.specs.Prelude.{All}
-use Rattle.std.proofs.lemmas.Bool.{eq-eqb, le-leb, ne_eqb}
-use Rattle.graph_core.specs.declared.parts.GraphParts.{GraphParts}
-use Rattle.graph_core.specs.Consistent.{IsConsistent}
-use Rattle.octi_grid.specs.declared.point.GridPoint.{GridPoint}
-use Rattle.octi_grid.specs.Walks.{PlainWalk}
-use Rattle.octi_grid.proofs.Members.{In}
-use Rattle.grid_board.specs.declared.bounds.Bounds.{Bounds}
-use Rattle.segment_router.proofs.Places.{all_in}
-use Rattle.drawing_weights.specs.Drawn.{points_all}
-use Rattle.drawing_weights.specs.Scales.{weight_by, Scale}
-use Rattle.run_laying.specs.Attempts.{improving, Attempt}
-use Rattle.run_laying.specs.Laying.{Sketch}
-use Rattle.run_laying.specs.Runs.{IsFitting}
-use Rattle.run_laying.specs.Searches.{after_pass, after_passes, Found, found_with}
-use Rattle.drawing_search.specs.declared.group.Group.{Group}
-use Rattle.drawing_search.specs.Gains.{sketch_weight}
-use Rattle.drawing_search.specs.Searched.{attempts_in, attempts_of}
-use Rattle.drawing_search.specs.Tries.{after_tries, after_try, IsSettled, Tried}
-use Rattle.drawing_search.specs.Trying.{walks_of}
+use Rattle.drawing_search.proofs.Common.{after_pass, after_passes, after_tries, after_try, all_in, attempts_in}
+use Rattle.drawing_search.proofs.Common.{attempts_of, drop_all, drop_more, eq-eqb, fold-append, found_with, improving}
+use Rattle.drawing_search.proofs.Common.{le-leb, ne_eqb, points_all, sketch_weight, walks_of, weight_by, All, Attempt}
+use Rattle.drawing_search.proofs.Common.{Bounds, Found, GraphParts, GridPoint, Group, In, IsConsistent, IsFitting}
+use Rattle.drawing_search.proofs.Common.{IsSettled, PlainWalk, Scale, Sketch, Tried}
 use Rattle.drawing_search.proofs.OnWalks.{found_of, tries_there, IsGood, IsThere}
 use Rattle.drawing_search.proofs.TriedGroups.{tries_after, IsAfter}
 

@@ -1,13 +1,8 @@
 -- Ports round a node that leave room for the segments between leave it as well where there are fewer of them.
 use Rattle.std.proofs.Common.{◌≡◌, refl, sym, ◌∙◌, subst, ℕ, ◌+◌, ◌-◌, ◌%◌, ◌<◌, ◌≤◌, Bool, true, false, cond, eqb, nat_le, List, [], ◌∷◌, length, Option, Some, None, inl, inr, arith}
-use Rattle.std.proofs.lemmas.Bool.{and_from, and_parts, eq-eqb, eqb-true, le-leb, leb-true}
-use Rattle.std.specs.List.{list_all}
-use Rattle.map_base.specs.declared.ids.SegId.{SegId}
-use Rattle.octi_grid.specs.declared.dir.Dir.{Dir}
-use Rattle.octi_grid.specs.Ways.{number_of}
-use Rattle.octi_grid.proofs.CostLemmas.{number_small}
-use Rattle.octi_grid.proofs.Fronts.{IsSameOrNone}
-use Rattle.segment_router.specs.Ports.{distance_to, gaps_of, gaps_to, is_allowed, stops_from, turned_over, with_port, with_stop, Stop}
+use Rattle.drawing_search.proofs.Common.{and_from, and_parts, distance_to, eq-eqb, eqb-true, gaps_of, gaps_to}
+use Rattle.drawing_search.proofs.Common.{is_allowed, le-leb, leb-true, list_all, number_of, number_small, stops_from}
+use Rattle.drawing_search.proofs.Common.{turned_over, with_port, with_stop, Dir, IsSameOrNone, SegId, Stop}
 
 -- there is room in all gaps
 abbrev has_room : List (ℕ × ℕ) → Bool

@@ -1,18 +1,10 @@
 -- A way without turns leads straight on: by the number of its direction.
 use Rattle.std.proofs.Common.{◌≡◌, refl, sym, ◌∙◌, ap, ap₂, subst, ℕ, zero, suc, ◌≤◌, Bool, true, false, cond, eqb, ◌&&◌, max, List, [], ◌∷◌, length, replicate, ℤ, pos, ◌+ℤ◌, ◌-ℤ◌, unsigned_abs, slice_get, Some, arith}
-use Rattle.std.specs.Prelude.{int_lt}
-use Rattle.std.proofs.lemmas.Int.{ints}
-use Rattle.std.proofs.lemmas.Bool.{eq-eqb, ne_eqb}
-use Rattle.octi_grid.specs.declared.dir.Dir.{Dir}
 use Rattle.octi_grid.specs.declared.dir.Dir.TheVariants as dir
-use Rattle.octi_grid.specs.declared.point.GridPoint.{GridPoint}
-use Rattle.octi_grid.specs.Costs.{turn_between}
-use Rattle.octi_grid.specs.Ways.{after, number_of}
-use Rattle.octi_grid.specs.Walks.{last_of}
-use Rattle.octi_grid.proofs.WayLemmas.{after-replicate}
-use Rattle.drawing_weights.specs.Weights.{turns_of}
 use Rattle.drawing_weights.proofs.LeastWeights.{all_one_way}
-use Rattle.drawing_search.specs.Least.{diagonal, straight_way, turns_at_least}
+use Rattle.drawing_search.proofs.Common.{after, after-replicate, diagonal, eq-eqb, int_lt, ints, last_of, ne_eqb}
+use Rattle.drawing_search.proofs.Common.{number_of, straight_way, turn_between, turns_at_least, turns_of, Dir}
+use Rattle.drawing_search.proofs.Common.{GridPoint}
 use Rattle.drawing_search.proofs.TurnSums.{turns_enough}
 
 -- the number of a straight way, by how far it leads across and along, and whether that is east and north

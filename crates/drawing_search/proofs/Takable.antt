@@ -1,22 +1,12 @@
 -- Runs that stand may be taken off the board: first their walks, then the nodes between their ends.
 use Rattle.std.proofs.Common.{◌≡◌, refl, sym, ◌∙◌, ap, subst, ℕ, zero, suc, ◌+◌, ◌-◌, ◌<◌, ◌≤◌, true, false, List, [], ◌∷◌, length, drop, get_or, Contains, Some, None, ◌⊎◌, inl, inr, arith, get_or-set_other, take, map}
-use Rattle.std.proofs.lemmas.Bool.{cases_eq, cases_lt}
-use Rattle.std.proofs.lemmas.List.{get_or_past}
-use Rattle.map_base.specs.declared.ids.NodeId.{NodeId}
-use Rattle.map_base.specs.declared.ids.SegId.{SegId}
-use Rattle.graph_core.specs.declared.parts.GraphParts.{GraphParts}
-use Rattle.graph_core.specs.Consistent.{IsConsistent}
-use Rattle.line_chains.specs.declared.chain.Chain.{Chain}
-use Rattle.line_chains.specs.declared.chain.ChainStep.{ChainStep}
-use Rattle.octi_grid.specs.Walks.{PlainWalk}
-use Rattle.octi_grid.proofs.Members.{In}
 pub use Rattle.segment_router.proofs.RouteLemmas.{in_map as from_map}
-use Rattle.run_laying.specs.Attempts.{inner_nodes}
-use Rattle.run_laying.specs.Laying.{Sketch}
-use Rattle.run_laying.specs.Runs.{AreOnce, AreSteps, IsRun}
-use Rattle.run_laying.specs.Sketches.{is_standing, lifted, walk_in, with_walk_of, IsEndOf, IsLegalSketch}
-use Rattle.run_laying.proofs.RunFacts.{contains_in, inner_of, inner_off, leads_to, once_first, IsOff}
-use Rattle.drawing_search.specs.Changes.{without_walks, AreApart, AreLiftable, IsLiftable, IsTakable}
+use Rattle.run_laying.proofs.RunFacts.{IsOff}
+use Rattle.drawing_search.proofs.Common.{cases_eq, cases_lt, contains_in, get_or_past, inner_nodes, inner_of, inner_off}
+use Rattle.drawing_search.proofs.Common.{is_standing, leads_to, lifted, once_first, walk_in, with_walk_of}
+use Rattle.drawing_search.proofs.Common.{without_walks, AreApart, AreLiftable, AreOnce, AreSteps, Chain, ChainStep}
+use Rattle.drawing_search.proofs.Common.{GraphParts, In, IsConsistent, IsEndOf, IsLegalSketch, IsLiftable, IsRun}
+use Rattle.drawing_search.proofs.Common.{IsTakable, NodeId, PlainWalk, SegId, Sketch}
 use Rattle.drawing_search.proofs.RunEnds.{inner_left}
 use Rattle.drawing_search.proofs.TakenOff.{gone, lifted_legal, off_legal, still_gone}
 

@@ -1,21 +1,10 @@
 -- Runs that were laid are taken away again: what stands then is what stood before.
 use Rattle.std.proofs.Common.{◌≡◌, refl, sym, ◌∙◌, ap, subst, ℕ, Bool, true, false, List, [], ◌∷◌, length, fold, get_or, Option, None, inl, inr, length-set, get_or-set_other}
-use Rattle.map_base.specs.declared.ids.NodeId.{NodeId}
-use Rattle.map_base.specs.declared.ids.SegId.{SegId}
-use Rattle.graph_core.specs.declared.parts.GraphParts.{GraphParts}
-use Rattle.graph_core.specs.Consistent.{IsConsistent}
-use Rattle.line_chains.specs.declared.chain.Chain.{Chain}
-use Rattle.line_chains.specs.declared.chain.ChainStep.{ChainStep}
-use Rattle.octi_grid.specs.Walks.{PlainWalk}
-use Rattle.octi_grid.proofs.Members.{In}
-use Rattle.segment_router.proofs.MaskLemmas.{ends_round}
-use Rattle.run_laying.specs.Attempts.{inner_nodes}
-use Rattle.run_laying.specs.Laying.{Sketch}
-use Rattle.run_laying.specs.Runs.{AreBeside, IsRun, MeetAlone}
-use Rattle.run_laying.specs.Sketches.{is_standing, lifted, walk_in, with_walk_of, IsEndOf, IsLegalSketch}
-use Rattle.run_laying.proofs.Attempted.{beside_off}
-use Rattle.run_laying.proofs.RunFacts.{inner_of, inner_off, step_of, IsInner}
-use Rattle.drawing_search.specs.Changes.{without_run, without_walks, AreLiftable, AreTakable, IsTakable}
+use Rattle.drawing_search.proofs.Common.{beside_off, ends_round, inner_nodes, inner_of, inner_off, is_standing, lifted}
+use Rattle.drawing_search.proofs.Common.{step_of, walk_in, with_walk_of, without_run, without_walks, AreBeside}
+use Rattle.drawing_search.proofs.Common.{AreLiftable, AreTakable, Chain, ChainStep, GraphParts, In, IsConsistent}
+use Rattle.drawing_search.proofs.Common.{IsEndOf, IsInner, IsLegalSketch, IsRun, IsTakable, MeetAlone, NodeId}
+use Rattle.drawing_search.proofs.Common.{PlainWalk, SegId, Sketch}
 use Rattle.drawing_search.proofs.Takable.{legal_without, none_left, run_takable, same_stand, same_walks_off, still_none}
 use Rattle.drawing_search.proofs.TakenOff.{gone, lifted_legal, still_gone}
 

@@ -1,28 +1,15 @@
 -- A legal sketch from which a walk or a node is taken off: it stays legal, and its board is freed.
 use Rattle.std.proofs.Common.{◌≡◌, refl, sym, ◌∙◌, ap, subst, ℕ, zero, suc, ◌<◌, ◌≤◌, Bool, true, false, not, ◌&&◌, ◌||◌, is_some, List, [], ◌∷◌, length, get_or, set, Option, Some, None, ◌⊎◌, inl, inr, arith, length-set, get_or-set_other}
-use Rattle.std.proofs.lemmas.Bool.{and_from, and_parts, cases_Bool, cases_eq, cases_lt, not-true, or_cases, or_left, or_right, true≢false}
-use Rattle.std.proofs.lemmas.List.{get_or_past}
-use Rattle.std.specs.List.{list_any}
-use Rattle.map_base.specs.declared.ids.NodeId.{NodeId}
-use Rattle.map_base.specs.declared.ids.SegId.{SegId}
-use Rattle.graph_core.specs.declared.parts.GraphParts.{GraphParts}
-use Rattle.graph_core.specs.Consistent.{IsConsistent}
-use Rattle.line_chains.specs.Chains.{ends_of, round_of}
-use Rattle.octi_grid.specs.declared.point.GridPoint.{GridPoint}
-use Rattle.octi_grid.specs.Ways.{are_one, doubled}
-use Rattle.octi_grid.specs.Walks.{doubled_of, end_point, PlainWalk}
-use Rattle.octi_grid.specs.Legal.{is_among}
-use Rattle.octi_grid.proofs.Fronts.{clockwise_fewer, IsSameOrNone}
-use Rattle.octi_grid.proofs.Members.{among_from, any_at, any_from, are_one_from, one_point, same_test, In}
-use Rattle.grid_board.specs.Boards.{with_kept, without_walk}
-use Rattle.segment_router.specs.Routes.{has_doubled, port_at_node, port_by}
+use Rattle.line_chains.specs.Chains.{ends_of}
 use Rattle.segment_router.proofs.LaidLemmas.{end_on_way, start_on_way}
-use Rattle.segment_router.proofs.MaskLemmas.{ends_round}
-use Rattle.segment_router.proofs.Places.{seg_at}
-use Rattle.run_laying.specs.Laying.{board_of, board_under, Sketch}
-use Rattle.run_laying.specs.Sketches.{is_standing, lifted, point_of_node, walk_in, with_walk_of, IsEndOf, IsLegalSketch, IsMeeting}
-use Rattle.run_laying.proofs.RunFacts.{end_below, in_round}
-use Rattle.run_laying.proofs.Shown.{in_walks}
+use Rattle.drawing_search.proofs.Common.{among_from, and_from, and_parts, any_at, any_from, are_one, are_one_from}
+use Rattle.drawing_search.proofs.Common.{board_of, board_under, cases_Bool, cases_eq, cases_lt, clockwise_fewer}
+use Rattle.drawing_search.proofs.Common.{doubled, doubled_of, end_below, end_point, ends_round, get_or_past}
+use Rattle.drawing_search.proofs.Common.{has_doubled, in_round, in_walks, is_among, is_standing, lifted, list_any}
+use Rattle.drawing_search.proofs.Common.{not-true, one_point, or_cases, or_left, or_right, point_of_node, port_at_node}
+use Rattle.drawing_search.proofs.Common.{port_by, round_of, same_test, seg_at, true≢false, walk_in, with_kept}
+use Rattle.drawing_search.proofs.Common.{with_walk_of, without_walk, GraphParts, GridPoint, In, IsConsistent, IsEndOf}
+use Rattle.drawing_search.proofs.Common.{IsLegalSketch, IsMeeting, IsSameOrNone, NodeId, PlainWalk, SegId, Sketch}
 
 -- what is taken from a list is gone, and stays so
 pub gone : {X : Type 0} (d : X) (xs : List X) (i : ℕ) → get_or (set xs i d) i d ≡ d

@@ -1,28 +1,11 @@
 -- The attempts of a group, one after another, and groups after groups.
 use Rattle.std.proofs.Common.{◌≡◌, refl, sym, ◌∙◌, ap, ap₂, subst, ℕ, zero, suc, ◌+◌, ◌-◌, ◌*◌, ◌/◌, ◌%◌, ◌<◌, ◌≤◌, Bool, true, false, cond, eqb, nat_le, nat_lt, List, [], ◌∷◌, ◌++◌, length, drop, get_or, Option, Some, None, ◌⊎◌, inl, inr, arith}
-use Rattle.std.proofs.lemmas.Bool.{cases_lt, le-leb, leb-false, lt-leb, ltb-true, ne_eqb}
-use Rattle.std.proofs.lemmas.List.{drop_all, drop_more}
-use Rattle.std.specs.List.{flat_map, range_with_len}
-use Rattle.std.specs.Prelude.{All}
-use Rattle.map_base.specs.declared.ids.NodeId.{NodeId}
-use Rattle.graph_core.specs.declared.parts.GraphParts.{GraphParts}
-use Rattle.line_chains.specs.declared.chain.Chain.{Chain}
-use Rattle.octi_grid.specs.declared.dir.Dir.{Dir}
-use Rattle.octi_grid.specs.declared.point.GridPoint.{GridPoint}
-use Rattle.walk_search.specs.Moves.{direction}
-use Rattle.drawing_weights.specs.Scales.{Scale}
-use Rattle.run_laying.specs.Attempts.{attempted_on, Attempt}
-use Rattle.run_laying.specs.Laying.{Sketch}
-use Rattle.run_laying.specs.Searches.{attempts_by, attempts_of_length}
-use Rattle.run_laying.specs.Runs.{IsFitting}
-use Rattle.drawing_search.specs.declared.group.Group.{Group}
-use Rattle.drawing_search.specs.declared.group.Vector.{Vector}
-use Rattle.drawing_search.specs.declared.lifting.Lifted.{Lifted}
-use Rattle.drawing_search.specs.Gains.{sketch_weight}
-use Rattle.drawing_search.specs.Lifting.{attempt_by, CameOf, IsLifted, IsTaken, IsTriedFrom}
-use Rattle.drawing_search.specs.Searched.{attempts_in}
-use Rattle.drawing_search.specs.Tries.{after_tries, after_try, if_below, tried, with_tried, without, IsSettled, Tried}
-use Rattle.drawing_search.specs.Changes.{AreApart}
+use Rattle.drawing_search.proofs.Common.{after_tries, after_try, attempt_by, attempted_on, attempts_by, attempts_in}
+use Rattle.drawing_search.proofs.Common.{attempts_of_length, cases_lt, direction, drop_all, drop_more, flat_map}
+use Rattle.drawing_search.proofs.Common.{if_below, le-leb, leb-false, lt-leb, ltb-true, ne_eqb, range_with_len}
+use Rattle.drawing_search.proofs.Common.{sketch_weight, tried, with_tried, without, All, AreApart, Attempt, CameOf}
+use Rattle.drawing_search.proofs.Common.{Chain, Dir, GraphParts, GridPoint, Group, IsFitting, IsLifted, IsSettled}
+use Rattle.drawing_search.proofs.Common.{IsTaken, IsTriedFrom, Lifted, NodeId, Scale, Sketch, Tried, Vector}
 use Rattle.drawing_search.proofs.Attempting.{lifted_alike}
 use Rattle.drawing_search.proofs.Lifts.{group_of, IsGroup}
 use Rattle.octi_grid.specs.declared.dir.Dir.TheVariants as dir

@@ -1,17 +1,11 @@
 -- What steps cost and turn, joined and walked back.
 use Rattle.std.proofs.Common.{◌≡◌, refl, sym, ◌∙◌, ap, ℕ, ◌+◌, ◌-◌, ◌%◌, ◌≤◌, List, [], ◌∷◌, ◌++◌, map, reverse, min, Option, Some, None, slice_get, arith, ap₂}
-use Rattle.std.proofs.lemmas.List.{map-append, reverse-append}
-use Rattle.octi_grid.specs.declared.dir.Dir.{Dir}
 use Rattle.octi_grid.specs.declared.dir.Dir.TheVariants as dir
-use Rattle.octi_grid.specs.Costs.{clockwise_from, step_cost, turn_between, way_cost}
-use Rattle.octi_grid.specs.Walks.{last_of}
-use Rattle.octi_grid.specs.Ways.{number_of, reverse_of}
-use Rattle.octi_grid.proofs.CostLemmas.{number_small, turn_none}
-use Rattle.drawing_weights.specs.Weights.{turns_of}
-use Rattle.run_laying.proofs.Reversed.{turned}
 use Rattle.walk_search.proofs.TurnsDue.{turn_shorter}
 use Rattle.octi_grid.proofs.RunLemmas.{last_of-push}
-use Rattle.walk_search.proofs.Crossing.{turn_back}
+use Rattle.drawing_search.proofs.Common.{clockwise_from, last_of, map-append, number_of, number_small, reverse-append}
+use Rattle.drawing_search.proofs.Common.{reverse_of, step_cost, turn_back, turn_between, turn_none, turned, turns_of}
+use Rattle.drawing_search.proofs.Common.{way_cost, Dir}
 
 -- the steps alone, without turns
 abbrev pub steps_cost : List Dir → ℕ

@@ -1,13 +1,8 @@
 -- Drawings that stand on a field lie near the origin.
 use Rattle.std.proofs.Common.{◌≡◌, ◌∙◌, true, List, sym, ap, subst, arith}
-use Rattle.octi_grid.specs.declared.point.GridPoint.{GridPoint}
-use Rattle.octi_grid.specs.Walks.{PlainWalk}
-use Rattle.grid_board.specs.declared.bounds.Bounds.{Bounds}
-use Rattle.grid_board.specs.Boards.{contains, AreBounds}
-use Rattle.grid_board.specs.Points.{are_near, is_near}
 use Rattle.drawing_weights.proofs.Spans.{first_within, inside_near, past_bounds, within_near}
-use Rattle.octi_moves.specs.declared.field.Field.{Field}
-use Rattle.octi_moves.specs.Standing.{stay_within, IsField, IsStanding}
+use Rattle.octi_moves.proofs.Common.{are_near, contains, is_near, stay_within, AreBounds, Bounds, Field, GridPoint}
+use Rattle.octi_moves.proofs.Common.{IsField, IsStanding, PlainWalk}
 
 pub first_near : (f : Field) → IsField f → are_near 1904 f.first.now ≡ true
 first_near f fit = within_near 1900 4 f.first.now fit.near f.first.now (first_within f.first.now fit.near 4 (omega arith))

@@ -1,3 +1,4 @@
+mod Common
 pub mod Nearer
 mod FieldUse
 mod KeptWalks

@@ -1,17 +1,10 @@
 -- Moves under way.
 use Rattle.std.proofs.Common.{◌≡◌, ◌∙◌, ℕ, zero, suc, ◌+◌, ◌-◌, ◌≤◌, ◌<◌, true, List, Some, None, length, sym, ap, subst, refl, arith, ◌⊎◌, inl, inr}
-use Rattle.graph_core.specs.declared.parts.GraphParts.{GraphParts}
-use Rattle.octi_grid.specs.Walks.{PlainWalk}
-use Rattle.octi_grid.specs.Legal.{legal}
-use Rattle.grid_board.specs.declared.bounds.Bounds.{Bounds}
-use Rattle.grid_board.specs.Points.{are_near}
-use Rattle.drawing_weights.specs.Weights.{weight_of}
 use Rattle.drawing_weights.proofs.Spans.{first_within, within_near}
-use Rattle.octi_moves.specs.declared.field.Field.{Field}
 use Rattle.octi_moves.specs.declared.improved.Improved.{Improved}
 use Rattle.octi_moves.specs.Improving.{IsImproved}
-use Rattle.octi_moves.specs.Moves.{after_move, improved, moved_by, next_of, one_more, Moved}
-use Rattle.octi_moves.specs.Standing.{stay_within, IsField, IsStanding}
+use Rattle.octi_moves.proofs.Common.{after_move, are_near, improved, legal, moved_by, next_of, one_more, stay_within}
+use Rattle.octi_moves.proofs.Common.{weight_of, Bounds, Field, GraphParts, IsField, IsStanding, Moved, PlainWalk}
 
 -- so many moves were made of a number, and so much does the drawing weigh now
 pub record IsMoving (f : Field) (moves made : ℕ) (walks : List PlainWalk) (before after : ℕ) : Type 0 where

@@ -1,10 +1,5 @@
 use Rattle.std.proofs.Common.{refl, ◌≤◌, List, ◌∷◌, ◌++◌, [], length, get_or, ap, subst, ◌∙◌, arith}
-use Rattle.map_base.specs.declared.ids.NodeId.{NodeId}
-use Rattle.line_chains.specs.declared.chain.Chain.{Chain}
-use Rattle.octi_grid.specs.declared.point.GridPoint.{GridPoint}
-use Rattle.grid_board.specs.Points.{is_near}
-use Rattle.drawing_weights.specs.Scales.{apart_weight_by, scale_of}
-use Rattle.drawing_search.specs.Gains.{first_point}
+use Rattle.drawing_search.proofs.Common.{apart_weight_by, first_point, is_near, scale_of, Chain, GridPoint, NodeId}
 use Rattle.drawing_search.proofs.LiftedGroups.{group_lifted, least_asks, least_begin, least_more, node_fits, node_lifted, node_ready, nodes_begin, run_fits, run_lifted, run_takable, runs_begin}
 use Rattle.drawing_search.proofs.Nearby.{takable_stands}
 use Rattle.drawing_search.proofs.lifting.lift.Goals as goal

@@ -1,25 +1,12 @@
 use Rattle.std.proofs.Common.{◌≡◌, ℕ, ◌+◌, ◌<◌, List, [], ◌∷◌, ◌++◌, pos, length, map, fold, get_or, drop, append_assoc, append-nil, Option, Some, None, option_map, sym, ap, ap₂, subst, ◌∙◌, refl, zero, suc, inl, inr, arith, get_or-set_other}
-use Rattle.std.proofs.lemmas.List.{at_drop_all, at_drop_more}
-use Rattle.std.specs.List.{cons_option}
-use Rattle.std.specs.Prelude.{OnOk}
-use Rattle.map_base.specs.declared.ids.NodeId.{NodeId}
-use Rattle.map_base.specs.declared.ids.SegId.{SegId}
-use Rattle.line_chains.specs.declared.chain.ChainStep.{ChainStep}
-use Rattle.octi_grid.specs.declared.point.GridPoint.{GridPoint}
-use Rattle.octi_grid.specs.Walks.{PlainWalk}
-use Rattle.run_laying.specs.Attempts.{inner_nodes}
-use Rattle.run_laying.specs.Laying.{Sketch}
-use Rattle.run_laying.specs.Runs.{AreOnce}
 use Rattle.run_laying.specs.Sketches.{lifted as lifted_off, walk_in, with_walk_of, IsLegalSketch}
-use Rattle.drawing_search.specs.declared.least.LeastTurns.{LeastTurns}
-use Rattle.drawing_search.specs.declared.lifting.Lifted.{Lifted}
-use Rattle.drawing_search.specs.Changes.{without_walks, AreLiftable}
-use Rattle.drawing_search.specs.Gains.{AreOnGraph}
-use Rattle.drawing_search.specs.Lifting.{points_along, walks_along}
+use Rattle.drawing_search.proofs.Common.{at_drop_all, at_drop_more, cons_option, inner_nodes, once_first, points_along}
+use Rattle.drawing_search.proofs.Common.{walks_along, without_walks, AreLiftable, AreOnce, AreOnGraph, ChainStep}
+use Rattle.drawing_search.proofs.Common.{GridPoint, LeastTurns, Lifted, NodeId, OnOk, PlainWalk, SegId, Sketch}
 use Rattle.drawing_search.proofs.RunReads.{run_on_graph}
 use Rattle.drawing_search.proofs.TakenOff.{off_legal}
 use Rattle.drawing_search.proofs.lifting.lift_run.Goals.{in-Some+in_ok-push, in_default}
-use Rattle.run_laying.proofs.RunFacts.{once_first, IsOff}
+use Rattle.run_laying.proofs.RunFacts.{IsOff}
 use Rattle.drawing_search.proofs.lifting.lift_run.Goals as goal
 
 -- steps over other segments keep theirs

@@ -1,16 +1,8 @@
 use Rattle.std.proofs.Common.{◌≡◌, refl, sym, ◌∙◌, ap, subst, ◌-◌, ◌<◌, ◌∷◌, ◌++◌, [], List, length, map, get_or, Some, arith, rules}
-use Rattle.std.proofs.lemmas.List.{length_push}
 use Rattle.std.proofs.lemmas.Iterator.Adapters.{YieldsList-from_vec}
 use Rattle.std.proofs.lemmas.Iterator.Consumers.{YieldsList-end, YieldsList-turn}
-use Rattle.std.specs.List.{list_all}
-use Rattle.octi_grid.specs.Legal.{is_even}
-use Rattle.octi_grid.specs.Walks.{points_of, PlainWalk}
-use Rattle.grid_board.specs.Boards.{contains}
-use Rattle.segment_router.proofs.Places.{all_place}
-use Rattle.segment_router.proofs.SettledLemmas.{nowhere}
-use Rattle.run_laying.specs.Laying.{Sketch}
-use Rattle.run_laying.specs.Sketches.{is_standing, stood, walk_in, with_walk_of}
-use Rattle.drawing_search.specs.Shown.{bare_sketch}
+use Rattle.drawing_search.proofs.Common.{all_place, bare_sketch, contains, is_even, is_standing, length_push, list_all}
+use Rattle.drawing_search.proofs.Common.{nowhere, points_of, stood, walk_in, with_walk_of, PlainWalk, Sketch}
 use Rattle.drawing_search.proofs.Built.{node_built, node_flag, node_low, nodes_none, walk_below, walk_built, walk_free, walks_all, walks_none, with_walks}
 use Rattle.drawing_search.proofs.searching.sketch_of.Goals as goal
 

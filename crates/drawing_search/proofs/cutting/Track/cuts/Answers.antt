@@ -1,8 +1,5 @@
 use Rattle.std.proofs.Common.{length, ap, arith, ℕ, zero, suc, ◌+◌, ◌≤◌, Bool, true, false, cond, List, ◌∷◌, filter}
-use Rattle.std.specs.List.{range_with_len}
-use Rattle.octi_grid.specs.declared.point.GridPoint.{GridPoint}
-use Rattle.octi_grid.specs.Legal.{is_even}
-use Rattle.run_laying.specs.Pieces.{even_places, point_at}
+use Rattle.drawing_search.proofs.Common.{even_places, is_even, point_at, range_with_len, GridPoint}
 use Rattle.drawing_search.proofs.cutting.Track.cuts.Goals as goal
 
 few_kept : (test : ℕ → Bool) (a n : ℕ) → length (filter test (range_with_len a n)) ≤ n

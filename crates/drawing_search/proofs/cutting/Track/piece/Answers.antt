@@ -1,12 +1,6 @@
 use Rattle.std.proofs.Common.{◌≡◌, ℕ, ◌+◌, ◌-◌, ◌<◌, List, [], ◌∷◌, ◌++◌, length, get_or, take, drop, sym, ap, ap₂, subst, ◌∙◌, arith}
-use Rattle.std.proofs.lemmas.List.{drop_more, get_or_read}
-use Rattle.octi_grid.specs.declared.dir.Dir.{Dir}
-use Rattle.octi_grid.specs.declared.point.GridPoint.{GridPoint}
-use Rattle.octi_grid.specs.Ways.{step_from, IsWithin}
-use Rattle.octi_grid.specs.Walks.{end_point, PlainWalk}
-use Rattle.segment_router.proofs.SettledLemmas.{nowhere}
-use Rattle.run_laying.specs.Pieces.{point_at}
-use Rattle.drawing_search.specs.Tracks.{piece_along, IsTrack}
+use Rattle.drawing_search.proofs.Common.{drop_more, end_point, get_or_read, nowhere, piece_along, point_at, step_from}
+use Rattle.drawing_search.proofs.Common.{Dir, GridPoint, IsTrack, IsWithin, PlainWalk}
 use Rattle.drawing_search.proofs.Steps.{long, on_step, piece_end, piece_more, point_within}
 use Rattle.drawing_search.proofs.cutting.Track.piece.Goals as goal
 

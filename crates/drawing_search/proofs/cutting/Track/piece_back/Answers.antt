@@ -1,14 +1,7 @@
 use Rattle.std.proofs.Common.{◌≡◌, ℕ, suc, ◌+◌, ◌-◌, ◌<◌, List, [], ◌∷◌, ◌++◌, length, map, reverse, get_or, take, drop, sym, ap, ap₂, subst, ◌∙◌, arith}
-use Rattle.std.proofs.lemmas.List.{get_or_read}
-use Rattle.octi_grid.specs.declared.dir.Dir.{Dir}
-use Rattle.octi_grid.specs.declared.point.GridPoint.{GridPoint}
-use Rattle.octi_grid.specs.Ways.{reverse_of, step_from, IsWithin}
-use Rattle.octi_grid.specs.Walks.{end_point, PlainWalk}
-use Rattle.segment_router.proofs.SettledLemmas.{nowhere}
-use Rattle.walk_search.proofs.Turning.{step_back}
-use Rattle.run_laying.specs.Pieces.{point_at, reversed_walk}
-use Rattle.run_laying.proofs.Reversed.{back_end}
-use Rattle.drawing_search.specs.Tracks.{piece_along, IsTrack}
+use Rattle.drawing_search.proofs.Common.{back_end, end_point, get_or_read, nowhere, piece_along, point_at, reverse_of}
+use Rattle.drawing_search.proofs.Common.{reversed_walk, step_back, step_from, Dir, GridPoint, IsTrack, IsWithin}
+use Rattle.drawing_search.proofs.Common.{PlainWalk}
 use Rattle.drawing_search.proofs.Steps.{back_more, long, on_step, piece_end, point_within}
 use Rattle.drawing_search.proofs.cutting.Track.piece_back.Goals as goal
 

@@ -1,10 +1,6 @@
 use Rattle.std.proofs.Common.{◌≡◌, refl, sym, ◌∙◌, ap, subst, ◌+◌, ◌<◌, true, false, nat_le, nat_lt, List, length, arith}
 use Rattle.std.proofs.lemmas.Result.{err_from_is_err_and}
-use Rattle.std.specs.Prelude.{option_map, vec_items}
-use Rattle.line_chains.specs.declared.chain.ChainStep.{ChainStep}
-use Rattle.octi_grid.specs.declared.point.GridPoint.{GridPoint}
-use Rattle.octi_grid.specs.Legal.{is_even}
-use Rattle.run_laying.specs.Pieces.{even_steps, point_at}
+use Rattle.drawing_search.proofs.Common.{even_steps, is_even, option_map, point_at, vec_items, ChainStep, GridPoint}
 use Rattle.drawing_search.proofs.FewSteps.{run_few}
 use Rattle.drawing_search.proofs.Laid.{cuts_none, none_laid, uncut_laid}
 use Rattle.drawing_search.proofs.LaySteps.{few_points, first_even, some_points}

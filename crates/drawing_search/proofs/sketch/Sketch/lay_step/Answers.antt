@@ -1,14 +1,6 @@
 use Rattle.std.proofs.Common.{◌∙◌, sym, ap, subst, ◌<◌, length, arith}
-use Rattle.std.proofs.lemmas.List.{get_or_read}
-use Rattle.octi_grid.specs.Legal.{is_even}
-use Rattle.grid_board.specs.Boards.{contains}
-use Rattle.segment_router.proofs.Places.{all_place}
-use Rattle.segment_router.proofs.SettledLemmas.{nowhere}
-use Rattle.run_laying.specs.Laying.{Sketch}
-use Rattle.run_laying.specs.Pieces.{point_at}
-use Rattle.run_laying.specs.Sketches.{is_standing}
-use Rattle.drawing_search.specs.Changes.{StandsAfter}
-use Rattle.drawing_search.specs.Tracks.{piece_along}
+use Rattle.drawing_search.proofs.Common.{all_place, contains, get_or_read, is_even, is_standing, nowhere, piece_along}
+use Rattle.drawing_search.proofs.Common.{point_at, Sketch, StandsAfter}
 use Rattle.drawing_search.proofs.Laid.{piece_kept, piece_stood}
 use Rattle.drawing_search.proofs.Steps.{long, piece_end}
 use Rattle.drawing_search.proofs.sketch.Sketch.lay_step.Goals as goal

@@ -1,23 +1,11 @@
 use Rattle.std.proofs.Common.{◌≡◌, refl, ◌∙◌, sym, ap, ap₂, subst, ◌<◌, false, length, Option, inl, inr, arith, ℕ, ◌≢◌, true, not, None, ◌⊎◌}
-use Rattle.std.specs.Prelude.{IfOk}
-use Rattle.map_base.specs.declared.ids.NodeId.{NodeId}
-use Rattle.map_base.specs.declared.ids.SegId.{SegId}
-use Rattle.line_chains.specs.Chains.{end_of}
-use Rattle.octi_grid.specs.Walks.{PlainWalk}
-use Rattle.grid_board.specs.Boards.{BoardParts}
-use Rattle.walk_search.specs.Routes.{if_within, route}
-use Rattle.run_laying.specs.Laying.{board_of, board_under, first_seg_of, last_seg_of, run_walk, Sketch}
-use Rattle.run_laying.specs.Sketches.{point_of_node, is_standing, IsLegalSketch}
-use Rattle.run_laying.proofs.Shown.{node_shown, settled_there}
-use Rattle.drawing_search.specs.Least.{ports_for}
+use Rattle.drawing_search.proofs.Common.{board_of, board_under, end_at, end_of, first_seg_of, if_within, is_standing}
+use Rattle.drawing_search.proofs.Common.{last_seg_of, node_shown, point_of_node, ports_for, route, run_walk}
+use Rattle.drawing_search.proofs.Common.{settled_there, BoardParts, Chain, GraphParts, GridPoint, IfOk, IsLegalSketch}
+use Rattle.drawing_search.proofs.Common.{IsRun, NodeId, PlainWalk, SegId, Sketch}
 use Rattle.drawing_search.proofs.RunReads.{reads_end, reads_first, reads_last, run_from, run_to}
-use Rattle.graph_core.specs.declared.parts.GraphParts.{GraphParts}
-use Rattle.line_chains.specs.declared.chain.Chain.{Chain}
-use Rattle.octi_grid.specs.declared.point.GridPoint.{GridPoint}
 use Rattle.walk_search.specs.declared.ends.End.{End}
 use Rattle.segment_router.proofs.RouteLemmas.{no_route_from, no_route_to}
-use Rattle.segment_router.specs.Routes.{end_at}
-use Rattle.run_laying.specs.Runs.{IsRun}
 use Rattle.drawing_search.proofs.sketch.Sketch.run_walk.Goals as goal
 
 abbrev asked : GridPoint → ℕ → End

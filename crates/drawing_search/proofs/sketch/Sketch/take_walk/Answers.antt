@@ -1,16 +1,8 @@
 use Rattle.std.proofs.Common.{◌≡◌, refl, sym, ◌∙◌, ap, ap₂, subst, ◌<◌, Bool, is_some, List, Option, Some, None, length, get_or, set, inl, inr, arith, length-set}
-use Rattle.std.specs.List.{list_any}
-use Rattle.map_base.specs.declared.ids.NodeId.{NodeId}
-use Rattle.map_base.specs.declared.ids.SegId.{SegId}
-use Rattle.graph_core.specs.declared.parts.GraphParts.{GraphParts}
-use Rattle.octi_grid.specs.Walks.{points_of, PlainWalk}
-use Rattle.grid_board.specs.Boards.{parts_of, without_walk, IsBoard}
-use Rattle.line_chains.specs.Chains.{ends_of, round_of}
-use Rattle.segment_router.proofs.OrderLemmas.{read_at}
-use Rattle.run_laying.specs.Laying.{board_of, Sketch}
-use Rattle.run_laying.specs.Sketches.{walk_in, with_walk_of}
-use Rattle.run_laying.proofs.RunFacts.{end_below}
-use Rattle.drawing_search.specs.Shown.{sketch_of}
+use Rattle.line_chains.specs.Chains.{ends_of}
+use Rattle.drawing_search.proofs.Common.{board_of, end_below, list_any, parts_of, points_of, read_at, round_of}
+use Rattle.drawing_search.proofs.Common.{sketch_of, walk_in, with_walk_of, without_walk, GraphParts, IsBoard, NodeId}
+use Rattle.drawing_search.proofs.Common.{PlainWalk, SegId, Sketch}
 use Rattle.drawing_search.proofs.TakenOff.{has_walk_at}
 use Rattle.drawing_search.proofs.BoardsOf.{all_inside_kept, bare_shown, bare_view, freed_board, freed_shown, freed_view}
 use Rattle.drawing_search.proofs.sketch.Sketch.take_walk.Goals as goal

@@ -1,16 +1,7 @@
 use Rattle.std.proofs.Common.{◌≡◌, ℕ, ◌+◌, ◌<◌, ◌&&◌, Bool, true, false, List, pos, length, get_or, drop, sym, ap, subst, ◌∙◌, arith, zero, suc, ◌≤◌, unsigned_abs, replicate}
-use Rattle.std.proofs.lemmas.List.{at_drop_all, at_drop_more}
-use Rattle.map_base.specs.declared.ids.NodeId.{NodeId}
-use Rattle.octi_grid.specs.declared.point.GridPoint.{GridPoint}
-use Rattle.grid_board.specs.Points.{is_near}
-use Rattle.run_laying.specs.Laying.{Sketch}
-use Rattle.drawing_search.specs.declared.group.Vector.{Vector}
-use Rattle.drawing_search.specs.Changes.{has_room, is_open, moved_by}
-use Rattle.std.specs.Prelude.{nat_le}
-use Rattle.std.proofs.lemmas.Bool.{and_from, and_parts, le-leb, leb-true}
-use Rattle.octi_grid.specs.declared.dir.Dir.{Dir}
-use Rattle.octi_grid.specs.Ways.{after, east_of, north_of, step_from}
-use Rattle.octi_grid.proofs.WayLemmas.{east_small, north_small, reach}
+use Rattle.drawing_search.proofs.Common.{after, and_from, and_parts, at_drop_all, at_drop_more, east_of, east_small}
+use Rattle.drawing_search.proofs.Common.{has_room, is_near, is_open, le-leb, leb-true, moved_by, nat_le, north_of}
+use Rattle.drawing_search.proofs.Common.{north_small, reach, step_from, Dir, GridPoint, NodeId, Sketch, Vector}
 use Rattle.drawing_search.proofs.trying.Search.has_room.Goals as goal
 
 far_across : (most n : ℕ) (p : GridPoint) (d : Dir) → unsigned_abs p.x ≤ most → unsigned_abs (after p (replicate n d)).x ≤ most + n

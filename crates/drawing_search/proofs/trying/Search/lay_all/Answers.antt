@@ -1,6 +1,5 @@
 use Rattle.std.proofs.Common.{◌∙◌, refl, subst, ℕ, ◌-◌, take, Option, arith}
-use Rattle.drawing_weights.specs.Scales.{scale_of}
-use Rattle.drawing_search.specs.Tries.{IsRunLaid}
+use Rattle.drawing_search.proofs.Common.{scale_of, IsRunLaid}
 use Rattle.drawing_search.proofs.Alikes.{legal_alike}
 use Rattle.drawing_search.proofs.LaidBack.{so_far_still}
 use Rattle.drawing_search.proofs.LayLoop.{ahead_enough, bound_next, free_next, laid_all, laid_given_up, laid_takable, lay_begins, lay_ends, lay_more, room_next, run_next}

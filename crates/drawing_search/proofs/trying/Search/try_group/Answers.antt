@@ -1,10 +1,5 @@
 use Rattle.std.proofs.Common.{◌≡◌, refl, sym, ◌∙◌, ap, subst, ℕ, zero, suc, ◌+◌, ◌*◌, ◌/◌, ◌<◌, ◌≤◌, cond, eqb, arith}
-use Rattle.std.proofs.lemmas.Bool.{ne_eqb}
-use Rattle.drawing_weights.specs.Scales.{scale_of}
-use Rattle.run_laying.specs.Laying.{Sketch}
-use Rattle.run_laying.specs.Runs.{IsFitting}
-use Rattle.drawing_search.specs.Lifting.{attempt_by}
-use Rattle.drawing_search.specs.Tries.{IsSettled, Tried}
+use Rattle.drawing_search.proofs.Common.{attempt_by, ne_eqb, scale_of, IsFitting, IsSettled, Sketch, Tried}
 use Rattle.drawing_search.proofs.Alikes.{alike_self}
 use Rattle.drawing_search.proofs.TriedGroups.{all_tried, attempt_at, attempts_many, one_more}
 use Rattle.drawing_search.proofs.trying.Search.try_group.Goals as goal
