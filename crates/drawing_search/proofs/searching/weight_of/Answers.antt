@@ -30,15 +30,12 @@ loop-n-preserved c =
     let more = sum_more (node_weight_in (scale_of c.args.field.by) c.args.field.graph.now c.args.field.first.now c.args.sketch.now) c.loop-n.n in
     record { weight = omega (arith, c.loop-n.invariant.weight, c.node_weight-total.ensures.weight, more); small = omega (arith, c.loop-n.invariant.small, c.node_weight-total.ensures.small) }
 
-pub returns-clause-weight : goal.returns-clause-weight
-returns-clause-weight c =
+pub returns : goal.returns
+returns c =
     let f = c.args.field in
     let at_end : c.loop-n.n ≡ length f.graph.now.kinds = omega (arith, c.loop-n-test.false, c.loop-n.auto.n-end, c.nodes-n-end.ensures.count) in
     let all = ap (λ n. sum_by (node_weight_in (scale_of f.by) f.graph.now f.first.now c.args.sketch.now) (range_with_len 0 n)) at_end in
-    omega (arith, c.loop-n.invariant.weight, all)
-
-pub returns-clause-small : goal.returns-clause-small
-returns-clause-small c =
-    let f = c.args.field in
-    let at_end : c.loop-n.n ≡ length f.graph.now.kinds = omega (arith, c.loop-n-test.false, c.loop-n.auto.n-end, c.nodes-n-end.ensures.count) in
-    omega (arith, c.loop-n.invariant.small, at_end, c.requires.field.graph.few_nodes, c.requires.field.graph.few_segments)
+    record {
+      weight = omega (arith, c.loop-n.invariant.weight, all);
+      small = omega (arith, c.loop-n.invariant.small, at_end, c.requires.field.graph.few_nodes, c.requires.field.graph.few_segments);
+    }
