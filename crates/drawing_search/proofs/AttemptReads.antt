@@ -19,88 +19,6 @@ use Rattle.drawing_search.proofs.Takable.{from_map}
 all_mapped : {X Y : Type 0} (P : Y → Type 0) (f : X → Y) (xs : List X) → ((x : X) → In x xs → P (f x)) → All P (map f xs)
 all_mapped P f xs h = λ i d below. let found = from_map f xs (get_or (map f xs) i d) (in_at (map f xs) i d below) in subst P (sym found.2) (h found.0 found.1)
 
-module _ (graph : GraphParts) (fit : IsConsistent graph) (scale : Scale) (first : List GridPoint) (g : Group) (l : Lifted) (v : Vector) (old : Sketch) (weight : ℕ) (off : IsOff scale graph first g l v old weight) where
-  below : (n : NodeId) → In n g.nodes → n.0 < length graph.kinds
-  below n i = all_in (λ (m : NodeId). m.0 < length graph.kinds) g.nodes n off.fitting.nodes i
-
-  -- nodes that move: where they stood, and where they come to
-  pub moved_near : All (λ (m : NodeId × GridPoint). is_near 2000 m.1 ≡ true) l.moved.items
-  moved_near =
-      subst (All (λ (m : NodeId × GridPoint). is_near 2000 m.1 ≡ true)) (sym off.lifted.moved)
-      (all_mapped (λ (m : NodeId × GridPoint). is_near 2000 m.1 ≡ true) (λ (n : NodeId). (n, point_of_node off.whole n.0)) g.nodes
-      (λ n i. stands_near graph off.whole off.settled.legal n.0 (off.settled.whole.nodes n.0 (omega (arith, below n i, off.settled.legal.stand_each)))))
-
-  pub moved_nodes : All (λ (m : NodeId × GridPoint). m.0.0 < length graph.kinds) l.moved.items
-  moved_nodes =
-      subst (All (λ (m : NodeId × GridPoint). m.0.0 < length graph.kinds)) (sym off.lifted.moved) (all_mapped (λ (m : NodeId × GridPoint). m.0.0 < length graph.kinds) (λ (n : NodeId). (n, point_of_node off.whole n.0)) g.nodes below)
-
-  pub moved_few : length l.moved.items ≤ 20000
-  moved_few =
-      let few = apart_few (length graph.kinds) g.nodes off.apart below in
-      omega (arith, few, fit.few_nodes, ap length off.lifted.moved, length-map {B = NodeId × GridPoint} g.nodes (λ (n : NodeId). (n, point_of_node off.whole n.0)))
-
-  pub moved_there : has_room old v l.moved.items ≡ true → All (λ (m : NodeId × GridPoint). is_near 2000 (moved_by v m.1) ≡ true) l.moved.items
-  moved_there room = λ i d h.
-      let p = moved_by v (get_or l.moved.items i d).1 in
-      let open_there : is_open old p ≡ true = all_at (λ (m : NodeId × GridPoint). is_open old (moved_by v m.1)) l.moved.items (get_or l.moved.items i d) room (in_at l.moved.items i d h) in
-      on_board_near off.whole.bounds off.settled.legal.bounds p
-      (ap (λ (b : Bounds). contains b p) (sym off.lifted.off.bounds) ∙ (and_parts (contains old.bounds p) (not ((board_of old).is_node p) && not ((board_of old).is_taken (doubled p))) open_there).0)
-
-  -- the ends of runs
-  pub runs_from : All (λ (c : Chain). c.from.0 < length old.points) g.runs
-  runs_from = λ i d h. omega (arith, run_from graph fit (get_or g.runs i d) (off.fitting.runs i d h), off.lifted.off.points_each, off.settled.legal.points_each)
-
-  pub runs_to : All (λ (c : Chain). (end_of c).0 < length old.points) g.runs
-  runs_to = λ i d h. omega (arith, run_to graph fit (get_or g.runs i d) (off.fitting.runs i d h), off.lifted.off.points_each, off.settled.legal.points_each)
-
-  -- ---- what comes of an attempt
-
-  pub attempt_no_room : has_room old v l.moved.items ≡ false → IsAttempted scale graph first g l v old weight old None
-  attempt_no_room none = λ whole s fits lifted. case_no_room graph fit scale first g v whole old weight l off.apart s fits lifted none
-
-  module _ (room : has_room old v l.moved.items ≡ true) where
-    -- its runs may be laid where its nodes have moved
-    pub attempt_can : CanStandEach old (all_moved v l.moved.items)
-    attempt_can = can_move graph fit scale first g v off.whole old weight l off.apart off.settled off.fitting off.lifted room
-
-    pub attempt_layable : AreLayable graph (fold stood_at old (all_moved v l.moved.items)) g.runs
-    attempt_layable = layable_moved graph fit scale first g v off.whole old weight l off.apart off.settled off.fitting off.lifted room
-
-    pub attempt_bounds : HaveBounds scale graph (fold stood_at old (all_moved v l.moved.items)) g.runs l.least.items
-    attempt_bounds = (ready_moved graph fit scale first g v off.whole old weight l off.apart off.settled off.fitting off.lifted room).have
-
-    module _ (base ahead : ℕ) (base_is : base ≡ l.rest + sum_by (λ (m : NodeId × GridPoint). apart_weight_by scale m.0.0 (first_point first m.0.0) m.1) (all_moved v l.moved.items))
-        (ahead_is : ahead ≡ min 18446744073709551615 (gains_at_least (point_after old v l.moved.items) g.runs l.least.items)) where
-      pub attempt_base : base ≡ sketch_weight scale graph first (fold stood_at old (all_moved v l.moved.items))
-      attempt_base = base_is ∙ sym (weight_moved graph fit scale first g v off.whole old weight l off.apart off.settled off.fitting off.lifted room)
-
-      least_there : gains_at_least (point_after old v l.moved.items) g.runs l.least.items ≡ least_of (fold stood_at old (all_moved v l.moved.items)) g.runs l.least.items
-      least_there = least_moved graph fit scale first g v off.whole old weight l off.apart off.settled off.fitting off.lifted room
-
-      -- the runs add too much
-      pub attempt_heavy : weight ≤ min 18446744073709551615 (base + ahead) → IsAttempted scale graph first g l v old weight old None
-      attempt_heavy heavy =
-          let few = off.settled.small in
-          let same = attempt_base in
-          let there = least_there in
-          λ whole s fits lifted. case_heavy graph fit scale first g v whole old weight l off.apart s fits lifted room (omega (arith, heavy, few, same, ahead_is, there))
-
-      -- or not
-      pub attempt_ahead : min 18446744073709551615 (base + ahead) < weight → (ahead ≡ gains_at_least (λ (n : NodeId). point_of_node (fold stood_at old (all_moved v l.moved.items)) n.0) g.runs l.least.items) × (base + ahead < weight)
-      attempt_ahead less = let few = off.settled.small in let there = least_there in (omega (arith, less, few, ahead_is, there), omega (arith, less, few))
-
-    pub attempt_made : (new : Sketch) (less : ℕ) → AreAllLaid scale graph first weight g.runs (fold stood_at old (all_moved v l.moved.items)) new (Some less) → IsAttempted scale graph first g l v old weight new (Some less)
-    attempt_made new less laid = λ whole s fits lifted. case_made graph fit scale first g v whole old weight l off.apart s fits lifted room new less laid
-
-    module _ (new : Sketch) (laid : AreAllLaid scale graph first weight g.runs (fold stood_at old (all_moved v l.moved.items)) new None) where
-      pub attempt_liftable : AreLiftable graph new (map (λ (m : NodeId × GridPoint). m.0) l.moved.items)
-      attempt_liftable = moved_may_lift graph fit scale first g v off.whole old weight l off.apart off.settled off.fitting off.lifted room new laid
-
-      pub attempt_failed : (fin : Sketch) → fin ≡ fold lifted_off new (map (λ (m : NodeId × GridPoint). m.0) l.moved.items) → IsAttempted scale graph first g l v old weight fin None
-      attempt_failed fin is = λ whole s fits lifted. case_failed graph fit scale first g v whole old weight l off.apart s fits lifted room new laid fin is
-
--- ---- what an attempt knows of nodes, runs and bounds, as it reads them
-
 -- what nodes that move, runs and their bounds are before anything is put on the board
 pub record CanWeigh (graph : GraphParts) (k : Sketch) (ms : List (NodeId × GridPoint)) (cs : List Chain) (ls : List LeastTurns) : Type 0 where
   pub near : All (λ (m : NodeId × GridPoint). is_near 2000 m.1 ≡ true) ms
@@ -121,29 +39,43 @@ pub record CanLay (scale : Scale) (graph : GraphParts) (first : List GridPoint) 
 
 module _ (graph : GraphParts) (fit : IsConsistent graph) (scale : Scale) (first : List GridPoint) (g : Group) (l : Lifted) (v : Vector) (old : Sketch) (weight : ℕ) (off : IsOff scale graph first g l v old weight)
     (ms : List (NodeId × GridPoint)) (cs : List Chain) (ls : List LeastTurns) (moved_is : ms ≡ l.moved.items) (runs_is : cs ≡ g.runs) (least_is : ls ≡ l.least.items) where
+  below : (n : NodeId) → In n g.nodes → n.0 < length graph.kinds
+  below n i = all_in (λ (m : NodeId). m.0 < length graph.kinds) g.nodes n off.fitting.nodes i
+
+  moved_all : (P : NodeId × GridPoint → Type 0) → ((n : NodeId) → In n g.nodes → P (n, point_of_node off.whole n.0)) → All P ms
+  moved_all P h = subst (All P) (sym (moved_is ∙ off.lifted.moved)) (all_mapped P (λ (n : NodeId). (n, point_of_node off.whole n.0)) g.nodes h)
+
   pub can_weigh : CanWeigh graph old ms cs ls
   can_weigh = record {
-    near = subst (All (λ (m : NodeId × GridPoint). is_near 2000 m.1 ≡ true)) (sym moved_is) (moved_near graph fit scale first g l v old weight off);
-    nodes = subst (All (λ (m : NodeId × GridPoint). m.0.0 < length graph.kinds)) (sym moved_is) (moved_nodes graph fit scale first g l v old weight off);
-    few = let few = moved_few graph fit scale first g l v old weight off in omega (arith, few, ap length moved_is);
-    from = subst (All (λ (c : Chain). c.from.0 < length old.points)) (sym runs_is) (runs_from graph fit scale first g l v old weight off);
-    to = subst (All (λ (c : Chain). (end_of c).0 < length old.points)) (sym runs_is) (runs_to graph fit scale first g l v old weight off);
+    near = moved_all (λ (m : NodeId × GridPoint). is_near 2000 m.1 ≡ true)
+        (λ n i. stands_near graph off.whole off.settled.legal n.0 (off.settled.whole.nodes n.0 (omega (arith, below n i, off.settled.legal.stand_each))));
+    nodes = moved_all (λ (m : NodeId × GridPoint). m.0.0 < length graph.kinds) below;
+    few = let few = apart_few (length graph.kinds) g.nodes off.apart below in
+        omega (arith, few, fit.few_nodes, ap length (moved_is ∙ off.lifted.moved), length-map {B = NodeId × GridPoint} g.nodes (λ (n : NodeId). (n, point_of_node off.whole n.0)));
+    from = subst (All (λ (c : Chain). c.from.0 < length old.points)) (sym runs_is)
+        (λ i d h. omega (arith, run_from graph fit (get_or g.runs i d) (off.fitting.runs i d h), off.lifted.off.points_each, off.settled.legal.points_each));
+    to = subst (All (λ (c : Chain). (end_of c).0 < length old.points)) (sym runs_is)
+        (λ i d h. omega (arith, run_to graph fit (get_or g.runs i d) (off.fitting.runs i d h), off.lifted.off.points_each, off.settled.legal.points_each));
     each = ap length least_is ∙ off.lifted.each ∙ ap length (sym runs_is);
     small = subst (All IsSmallLeast) (sym least_is) off.lifted.small;
   }
 
   pub read_no_room : has_room old v ms ≡ false → IsAttempted scale graph first g l v old weight old None
-  read_no_room none = attempt_no_room graph fit scale first g l v old weight off (ap (has_room old v) (sym moved_is) ∙ none)
+  read_no_room none = λ whole s fits lifted. case_no_room graph fit scale first g v whole old weight l off.apart s fits lifted (ap (has_room old v) (sym moved_is) ∙ none)
 
   module _ (room : has_room old v ms ≡ true) where
     room_is : has_room old v l.moved.items ≡ true
     room_is = ap (has_room old v) (sym moved_is) ∙ room
 
     pub read_there : All (λ (m : NodeId × GridPoint). is_near 2000 (moved_by v m.1) ≡ true) ms
-    read_there = subst (All (λ (m : NodeId × GridPoint). is_near 2000 (moved_by v m.1) ≡ true)) (sym moved_is) (moved_there graph fit scale first g l v old weight off room_is)
+    read_there = λ i d h.
+        let p = moved_by v (get_or ms i d).1 in
+        let open_there : is_open old p ≡ true = all_at (λ (m : NodeId × GridPoint). is_open old (moved_by v m.1)) ms (get_or ms i d) room (in_at ms i d h) in
+        on_board_near off.whole.bounds off.settled.legal.bounds p
+        (ap (λ (b : Bounds). contains b p) (sym off.lifted.off.bounds) ∙ (and_parts (contains old.bounds p) (not ((board_of old).is_node p) && not ((board_of old).is_taken (doubled p))) open_there).0)
 
     pub read_can : CanStandEach old (all_moved v ms)
-    read_can = subst (λ (xs : List (NodeId × GridPoint)). CanStandEach old (all_moved v xs)) (sym moved_is) (attempt_can graph fit scale first g l v old weight off room_is)
+    read_can = subst (λ (xs : List (NodeId × GridPoint)). CanStandEach old (all_moved v xs)) (sym moved_is) (can_move graph fit scale first g v off.whole old weight l off.apart off.settled off.fitting off.lifted room_is)
 
     -- what there is once the nodes have moved
     module _ (mid : Sketch) (mid_is : mid ≡ fold stood_at old (all_moved v ms)) where
@@ -154,38 +86,49 @@ module _ (graph : GraphParts) (fit : IsConsistent graph) (scale : Scale) (first 
       laid_there new o laid = subst (λ (j : Sketch). AreAllLaid scale graph first weight g.runs j new o) mid_there (subst (λ (xs : List Chain). AreAllLaid scale graph first weight xs mid new o) runs_is laid)
 
       pub read_made : (new : Sketch) (less : ℕ) → AreAllLaid scale graph first weight cs mid new (Some less) → IsAttempted scale graph first g l v old weight new (Some less)
-      read_made new less laid = attempt_made graph fit scale first g l v old weight off room_is new less (laid_there new (Some less) laid)
+      read_made new less laid = λ whole s fits lifted. case_made graph fit scale first g v whole old weight l off.apart s fits lifted room_is new less (laid_there new (Some less) laid)
 
       pub read_liftable : (new : Sketch) → AreAllLaid scale graph first weight cs mid new None → AreLiftable graph new (map (λ (m : NodeId × GridPoint). m.0) ms)
       read_liftable new laid =
-          subst (λ (xs : List (NodeId × GridPoint)). AreLiftable graph new (map (λ (m : NodeId × GridPoint). m.0) xs)) (sym moved_is) (attempt_liftable graph fit scale first g l v old weight off room_is new (laid_there new None laid))
+          subst (λ (xs : List (NodeId × GridPoint)). AreLiftable graph new (map (λ (m : NodeId × GridPoint). m.0) xs)) (sym moved_is) (moved_may_lift graph fit scale first g v off.whole old weight l off.apart off.settled off.fitting off.lifted room_is new (laid_there new None laid))
 
       pub read_failed : (new : Sketch) → AreAllLaid scale graph first weight cs mid new None → (fin : Sketch) → fin ≡ fold lifted_off new (map (λ (m : NodeId × GridPoint). m.0) ms) → IsAttempted scale graph first g l v old weight fin None
-      read_failed new laid fin is =
-          attempt_failed graph fit scale first g l v old weight off room_is new (laid_there new None laid) fin (is ∙ ap (λ (xs : List (NodeId × GridPoint)). fold lifted_off new (map (λ (m : NodeId × GridPoint). m.0) xs)) moved_is)
+      read_failed new laid fin is = λ whole s fits lifted.
+          case_failed graph fit scale first g v whole old weight l off.apart s fits lifted room_is new (laid_there new None laid) fin (is ∙ ap (λ (xs : List (NodeId × GridPoint)). fold lifted_off new (map (λ (m : NodeId × GridPoint). m.0) xs)) moved_is)
 
     -- what the rest weighs then, and what the runs add at least
     module _ (base ahead : ℕ) (base_is : base ≡ l.rest + sum_by (λ (m : NodeId × GridPoint). apart_weight_by scale m.0.0 (first_point first m.0.0) m.1) (all_moved v ms))
         (ahead_is : ahead ≡ min 18446744073709551615 (gains_at_least (point_after old v ms) cs ls)) where
-      base_there : base ≡ l.rest + sum_by (λ (m : NodeId × GridPoint). apart_weight_by scale m.0.0 (first_point first m.0.0) m.1) (all_moved v l.moved.items)
-      base_there = base_is ∙ ap (λ (xs : List (NodeId × GridPoint)). l.rest + sum_by (λ (m : NodeId × GridPoint). apart_weight_by scale m.0.0 (first_point first m.0.0) m.1) (all_moved v xs)) moved_is
+      base_there : base ≡ sketch_weight scale graph first (fold stood_at old (all_moved v l.moved.items))
+      base_there =
+          base_is
+          ∙ ap (λ (xs : List (NodeId × GridPoint)). l.rest + sum_by (λ (m : NodeId × GridPoint). apart_weight_by scale m.0.0 (first_point first m.0.0) m.1) (all_moved v xs)) moved_is
+          ∙ sym (weight_moved graph fit scale first g v off.whole old weight l off.apart off.settled off.fitting off.lifted room_is)
 
-      ahead_there : ahead ≡ min 18446744073709551615 (gains_at_least (point_after old v l.moved.items) g.runs l.least.items)
-      ahead_there = ahead_is ∙ (λ i. min 18446744073709551615 (gains_at_least (point_after old v (moved_is i)) (runs_is i) (least_is i)))
+      ahead_there : ahead ≡ min 18446744073709551615 (least_of (fold stood_at old (all_moved v l.moved.items)) g.runs l.least.items)
+      ahead_there =
+          let read : gains_at_least (point_after old v ms) cs ls ≡ gains_at_least (point_after old v l.moved.items) g.runs l.least.items =
+          λ i. gains_at_least (point_after old v (moved_is i)) (runs_is i) (least_is i) in
+          ahead_is ∙ ap (min 18446744073709551615) (read ∙ least_moved graph fit scale first g v off.whole old weight l off.apart off.settled off.fitting off.lifted room_is)
 
       pub read_heavy : weight ≤ min 18446744073709551615 (base + ahead) → IsAttempted scale graph first g l v old weight old None
-      read_heavy heavy = attempt_heavy graph fit scale first g l v old weight off room_is base ahead base_there ahead_there heavy
+      read_heavy heavy =
+          let few = off.settled.small in
+          let same = base_there in
+          let there = ahead_there in
+          λ whole s fits lifted. case_heavy graph fit scale first g v whole old weight l off.apart s fits lifted room_is (omega (arith, heavy, few, same, there))
 
       pub read_laying : (mid : Sketch) → mid ≡ fold stood_at old (all_moved v ms) → min 18446744073709551615 (base + ahead) < weight → CanLay scale graph first mid cs ls base ahead weight
       read_laying mid mid_is less =
-          let facts = attempt_ahead graph fit scale first g l v old weight off room_is base ahead base_there ahead_there less in
+          let few = off.settled.small in
+          let there = ahead_there in
           subst (λ (j : Sketch). CanLay scale graph first j cs ls base ahead weight) (sym (mid_there mid mid_is))
           (subst (λ (rs : List Chain). CanLay scale graph first (fold stood_at old (all_moved v l.moved.items)) rs ls base ahead weight) (sym runs_is)
           (subst (λ (bs : List LeastTurns). CanLay scale graph first (fold stood_at old (all_moved v l.moved.items)) g.runs bs base ahead weight) (sym least_is)
           (record {
-            layable = attempt_layable graph fit scale first g l v old weight off room_is;
-            weight = attempt_base graph fit scale first g l v old weight off room_is base ahead base_there ahead_there;
-            bounds = attempt_bounds graph fit scale first g l v old weight off room_is;
-            ahead = facts.0;
-            less = facts.1;
+            layable = layable_moved graph fit scale first g v off.whole old weight l off.apart off.settled off.fitting off.lifted room_is;
+            weight = base_there;
+            bounds = (ready_moved graph fit scale first g v off.whole old weight l off.apart off.settled off.fitting off.lifted room_is).have;
+            ahead = omega (arith, less, few, there);
+            less = omega (arith, less, few);
           })))
