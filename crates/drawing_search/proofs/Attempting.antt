@@ -13,8 +13,6 @@ use Rattle.drawing_search.proofs.OnWalks.{below_some}
 use Rattle.drawing_search.proofs.PutBack.{same_list}
 use Rattle.drawing_search.proofs.Lifts.{group_of}
 
--- ---- drawings that are alike
-
 -- where all nodes stand, they are one
 pub alike_whole : (j k : Sketch) → AreAlike j k → ((n : ℕ) → n < length k.points → is_standing k n ≡ true) → j ≡ k
 alike_whole j k a stands =

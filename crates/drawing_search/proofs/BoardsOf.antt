@@ -18,8 +18,6 @@ exchanged true true u = refl
 exchanged true false u = refl
 exchanged false t u = refl
 
--- ---- nodes
-
 -- a node that didn't stand stands at a point
 standing_more : (stand : List Bool) (points : List GridPoint) (n : ℕ) (p x : GridPoint) → n < length points → n < length stand → get_or stand n false ≡ false
     → list_any (λ (q : GridPoint). are_one q x) (filter_map standing_point (zip (set stand n true) (set points n p))) ≡ (are_one p x || list_any (λ (q : GridPoint). are_one q x) (filter_map standing_point (zip stand points)))
@@ -87,8 +85,6 @@ module _ (graph : GraphParts) (k : Sketch) (h : IsLegalSketch graph k) (n : Node
     is_taken = (board_of k).is_taken;
   }
 
--- ---- walks
-
 -- a segment that had none has a walk
 taken_more : (ws : List (Option PlainWalk)) (s : ℕ) (w : PlainWalk) (d : GridPoint) → s < length ws → get_or ws s None ≡ None → list_any (has_doubled d) (set ws s (Some w)) ≡ (is_among (doubled_of w) d || list_any (has_doubled d) ws)
 taken_more [] s w d below e = absurd (omega (arith, below))
@@ -116,8 +112,6 @@ none_taken (suc n) d = none_taken n d
 
 pub board_bare : (bounds : Bounds) (ps : List GridPoint) (n : ℕ) → board_of (bare_sketch bounds ps n) ≡ empty_board bounds
 board_bare bounds ps n = λ i. record { bounds = bounds; is_node = λ x. none_stand ps x i; is_taken = λ d. none_taken n d i }
-
--- ---- a drawing in the making as it is kept: the flags of its board show the board that it has
 
 -- the bounds of a board that shows those of another
 pub kept_bounds_by : (b d : BoardFlags) → (parts_of d).bounds ≡ (parts_of b).bounds → d.bounds ≡ b.bounds

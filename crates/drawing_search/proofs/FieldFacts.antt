@@ -74,8 +74,6 @@ same_next j (i ∷ is) s =
     by_test (inl e) = ap (λ b. b || list_any (join_same j) is) e ∙ sym e
     by_test (inr f) = ap (λ b. join_same j i || b) (none f (cases_Bool (list_any (join_same j) is))) ∙ ap (λ b. b || false) f ∙ sym f
 
--- ---- there are not many pairs
-
 -- the number of a pair of segments
 abbrev code : SegId × SegId → ℕ
 code p = p.0.0 * 20000 + p.1.0
@@ -141,8 +139,6 @@ pairs_more joins i d j f pairs new h s is follows new_is =
     by_test : (b : Bool) → cond b pairs (pairs ++ (j.e, j.f) ∷ []) ++ joined_pairs rest ≡ pairs ++ cond b (joined_pairs rest) ((j.e, j.f) ∷ joined_pairs rest)
     by_test true = refl
     by_test false = append_assoc pairs ((j.e, j.f) ∷ []) (joined_pairs rest)
-
--- ---- what the joined pairs of a field are
 
 -- a pair comes of a join
 pub of_join : (js : List Join) (p : SegId × SegId) → In p (joined_pairs js) → (j : Join) × In j js × (p ≡ (j.e, j.f))
@@ -229,8 +225,6 @@ turns_small f fit n node ps is total i small within =
     let each = ap length (is ∙ pairs_read f fit n) in
     let most : total ≤ 1600000000 = omega (arith, small, within, few, each) in
     omega (arith, mul-le-mul_left total fit.overs, most)
-
--- ---- steps of a run
 
 -- a step is behind another where there is one
 pub one_behind : (ts : List ChainStep) (i : ℕ) → nat_lt (i + 1) (length ts) ≡ nat_lt 0 (length (drop (i + 1) ts))

@@ -259,8 +259,6 @@ module _ (graph : GraphParts) (fit : IsConsistent graph) (k : Sketch) (h : IsLeg
     turns_by_port : (d : Dir) → port_at_node graph (board_under new) n s ≡ Some d → turns_from graph new n s ≡ turns_by graph k n s d
     turns_by_port d port = same_sum (turn_if graph new n s) (turn_by graph k n s d) (pairs_at graph n) (λ pair i. turn_by_port d port pair i)
 
-  -- ---- nodes
-
   -- where no segment of the run ends, nothing turns that didn't
   still_turns : (n : ℕ) → n < length graph.kinds → ((q : ChainStep) → In q c.steps → IsEndOf graph q.seg n → ⊥) → turns_in graph new n ≡ turns_in graph k n
   still_turns n node off = same_sum (turn_in graph new n) (turn_in graph k n) (pairs_at graph n) (λ pair i. let joined = pair_joined graph fit n node pair i in same_turn n pair (off_run pair.0 joined.lesser) (off_run pair.1 joined.greater))

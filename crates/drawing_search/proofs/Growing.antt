@@ -64,8 +64,6 @@ at_one f x a lo (suc n) low high = by_first (λ order. at_one f x a (lo + 1) n o
         order (inl e) = absurd (differ e)
         order (inr f) = grind (arith, low, f)
 
--- ---- at several
-
 -- a number is one of these
 abbrev pub is_one_of : List ℕ → ℕ → Bool
 is_one_of xs i = list_any (eqb i) xs

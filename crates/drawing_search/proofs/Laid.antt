@@ -48,8 +48,6 @@ all_laid_along graph most c k new w e enough is =
     ∙ ap (λ t. cond t (Some (with_pieces graph c.from c.steps (pieces_of w (length c.steps)) k)) None) enough
     ∙ ap (λ (j : Sketch). Some j) (sym is)
 
--- ---- a step
-
 -- what a step wants, and what the node to which it leads is then
 pub record IsStepOf (graph : GraphParts) (is_inner : Bool) (t : ChainStep) (v : PlainWalk) (k : Sketch) : Type 0 where
   pub segment : t.seg.0 < length graph.ends
@@ -94,8 +92,6 @@ piece_kept graph n t w k mid given stands at =
       stand = sym (ap (set k.stand t.to.0) (sym stands) ∙ set-get_or k.stand t.to.0 false) i;
       walks = set k.walks t.seg.0 (Some (from_low graph t.seg n w));
     })
-
--- ---- step by step
 
 -- the run from a step on is still to be laid, if there is one
 pub record IsLayingFrom (graph : GraphParts) (n : NodeId) (ts : List ChainStep) (vs : List PlainWalk) (i : ℕ) (k : Sketch) (l : SegId) (e : ℕ) : Type 0 where

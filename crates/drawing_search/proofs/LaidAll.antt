@@ -22,8 +22,6 @@ use Rattle.drawing_search.proofs.RunBounds.{fold_least, least_allowed, run_no_le
 use Rattle.drawing_search.proofs.Spaced.{allowed_fewer}
 use Rattle.drawing_search.proofs.Takable.{on_or_off, from_map}
 
--- ---- bounds beside more walks
-
 -- a drawing has the walks of another, and more of them
 abbrev pub HasMore : Sketch → Sketch → Type 0
 HasMore k j = (t : SegId) → (walk_in k t ≡ None) ⊎ (walk_in k t ≡ walk_in j t)
@@ -94,8 +92,6 @@ module _ (graph : GraphParts) (k j : Sketch) (more : HasMore k j) where
           let leaves = in_filter (λ d. eqb (bit_at (ports_for graph j c.from.0 (first_seg_of c.steps)) (number_of d)) 1) directions found.0 found.1 in
           let arrives = in_filter (λ d. eqb (bit_at (ports_for graph j (end_of c).0 (last_seg_of c)) (number_of d)) 1) directions other.0 other.1 in
           subst (λ n. least_beside scale graph k c way ≤ n) (sym other.2) (of_ports found.0 other.0 leaves.0 arrives.0)
-
--- ---- one run
 
 -- the end of a run stays where it was
 end_there : (graph : GraphParts) (n : NodeId) (ts : List ChainStep) (vs : List PlainWalk) (k : Sketch) (w : PlainWalk) → length vs ≡ length ts → IsCut w vs → (end_after n ts).0 < length k.points → point_of_node (with_pieces graph n ts vs k) (end_after n ts).0 ≡ end_point w

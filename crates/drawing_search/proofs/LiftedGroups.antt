@@ -21,25 +21,22 @@ have_push scale graph k [] (m ∷ ms) c l each have one = absurd (omega (arith, 
 have_push scale graph k (d ∷ cs) [] c l each have one = absurd have
 have_push scale graph k (d ∷ cs) (m ∷ ms) c l each have one = (have.0, have_push scale graph k cs ms c l (omega (arith, each)) have.1 one)
 
--- so many runs were taken off
-pub record AreRunsLifted (scale : Scale) (graph : GraphParts) (first : List GridPoint) (old : Sketch) (runs : List Chain) (i : ℕ) (k : Sketch) (l : Lifted) : Type 0 where
-  pub sketch : k ≡ fold without_run old (take i runs)
-  pub walks : l.walks.items ≡ flat_map (λ (c : Chain). walks_along old c.steps) (take i runs)
-  pub inner : l.inner.items ≡ flat_map (λ (c : Chain). points_along old c.steps) (take i runs)
-  pub moved : l.moved.items ≡ []
+-- these runs were taken off, and these nodes
+pub record AreLifted (scale : Scale) (graph : GraphParts) (first : List GridPoint) (old : Sketch) (cs : List Chain) (ns : List NodeId) (k : Sketch) (l : Lifted) : Type 0 where
+  pub sketch : k ≡ fold lifted (fold without_run old cs) ns
+  pub walks : l.walks.items ≡ flat_map (λ (c : Chain). walks_along old c.steps) cs
+  pub inner : l.inner.items ≡ flat_map (λ (c : Chain). points_along old c.steps) cs
+  pub moved : l.moved.items ≡ map (λ (n : NodeId). (n, point_of_node old n.0)) ns
   pub rest : l.rest ≡ sketch_weight scale graph first k
   pub light : l.rest ≤ sketch_weight scale graph first old
   pub least : l.least.items ≡ []
 
--- and so many nodes
-pub record AreNodesLifted (scale : Scale) (graph : GraphParts) (first : List GridPoint) (old : Sketch) (nodes : List NodeId) (runs : List Chain) (i : ℕ) (k : Sketch) (l : Lifted) : Type 0 where
-  pub sketch : k ≡ fold lifted (fold without_run old runs) (take i nodes)
-  pub walks : l.walks.items ≡ flat_map (λ (c : Chain). walks_along old c.steps) runs
-  pub inner : l.inner.items ≡ flat_map (λ (c : Chain). points_along old c.steps) runs
-  pub moved : l.moved.items ≡ map (λ (n : NodeId). (n, point_of_node old n.0)) (take i nodes)
-  pub rest : l.rest ≡ sketch_weight scale graph first k
-  pub light : l.rest ≤ sketch_weight scale graph first old
-  pub least : l.least.items ≡ []
+-- so many runs were taken off, or all of them and so many nodes
+abbrev pub AreRunsLifted : Scale → GraphParts → List GridPoint → Sketch → List Chain → ℕ → Sketch → Lifted → Type 0
+AreRunsLifted scale graph first old runs i k l = AreLifted scale graph first old (take i runs) [] k l
+
+abbrev pub AreNodesLifted : Scale → GraphParts → List GridPoint → Sketch → List NodeId → List Chain → ℕ → Sketch → Lifted → Type 0
+AreNodesLifted scale graph first old nodes runs i k l = AreLifted scale graph first old runs (take i nodes) k l
 
 -- all of it is off, and so many runs have their bounds
 pub record AreLeastLifted (scale : Scale) (graph : GraphParts) (first : List GridPoint) (old : Sketch) (nodes : List NodeId) (runs : List Chain) (i : ℕ) (k : Sketch) (l : Lifted) : Type 0 where
@@ -150,18 +147,7 @@ module _ (f : Field) (field : IsField f) (old : Sketch) (weight : ℕ) (settled 
   k1 = fold without_run old b.runs
 
   pub nodes_begin : (i : ℕ) (k : Sketch) (l : Lifted) → length b.runs ≤ i → AreRunsLifted (scale_of f.by) f.graph.now f.first.now old b.runs i k l → AreNodesLifted (scale_of f.by) f.graph.now f.first.now old b.nodes b.runs 0 k l
-  nodes_begin i k l past a = record {
-    sketch = a.sketch ∙ ap (fold without_run old) all;
-    walks = a.walks ∙ ap (flat_map (λ (c : Chain). walks_along old c.steps)) all;
-    inner = a.inner ∙ ap (flat_map (λ (c : Chain). points_along old c.steps)) all;
-    moved = a.moved;
-    rest = a.rest;
-    light = a.light;
-    least = a.least;
-  }
-    where
-      all : take i b.runs ≡ b.runs
-      all = take_all i b.runs past
+  nodes_begin i k l past a = subst (λ (cs : List Chain). AreLifted (scale_of f.by) f.graph.now f.first.now old cs [] k l) (take_all i b.runs past) a
 
   -- the node of an iteration, as it is read
   module _ (ns : List NodeId) (same : ns ≡ b.nodes) (i : ℕ) (d : NodeId) (read_below : i < length ns) (k : Sketch) (l : Lifted) (a : AreNodesLifted (scale_of f.by) f.graph.now f.first.now old b.nodes b.runs i k l) where

@@ -42,8 +42,6 @@ in_filter_map {X} {Y} f (z ∷ zs) x y (inr i) e = by_first (f z) (in_filter_map
     by_first None j = j
     by_first (Some w) j = inr j
 
--- ---- a group
-
 -- runs that share no segment, and different nodes that lie between no two of their steps and whose segments are all on them
 pub record IsGroup (graph : GraphParts) (nodes : List NodeId) (runs : List Chain) : Type 0 where
   pub run : (c : Chain) → In c runs → IsRun graph c
@@ -115,8 +113,6 @@ pub lifted_at : (graph : GraphParts) (k : Sketch) (ns : List NodeId) → AreLift
 lifted_at graph k [] can i d h = absurd (omega arith)
 lifted_at graph k (n ∷ ns) can zero d h = (can.0.legal, can.0.stands)
 lifted_at graph k (n ∷ ns) can (suc i) d h = lifted_at graph (lifted k n) ns can.1 i d (omega arith)
-
--- ---- one node
 
 -- a node that is taken off, and at which no line turns then, weighed for its distance
 pub node_weighs : (scale : Scale) (graph : GraphParts) (first : List GridPoint) (k : Sketch) → IsLegalSketch graph k → (n : NodeId) → is_standing k n.0 ≡ true

@@ -20,8 +20,6 @@ use Rattle.drawing_search.proofs.Common.{Sketch, Tried}
 use Rattle.drawing_search.proofs.FieldFacts.{pair_below}
 use Rattle.drawing_search.proofs.Growing.{in_range, same_sum, sum_map}
 
--- ---- lists of numbers and their values
-
 -- what two functions give at all numbers of a range
 pub same_map : {X : Type 0} (f g : ℕ → X) (a n : ℕ) → ((i : ℕ) → i < a + n → f i ≡ g i) → map f (range_with_len a n) ≡ map g (range_with_len a n)
 same_map f g a zero same = refl
@@ -182,8 +180,6 @@ module _ (graph : GraphParts) (fit : IsConsistent graph) (k : Sketch) (h : IsLeg
   sketch_by_walks =
       λ i. record { bounds = k.bounds; points = points_are i; stand = stand_is i; walks = sym walks_are i }
 
--- ---- attempts
-
 -- an attempt on a whole drawing gives the walks that it gives on the walks
 pub tried_on_walks : (graph : GraphParts) → IsConsistent graph → (scale : Scale) (first : List PlainWalk) (bounds : Bounds) (ws : List PlainWalk) (a : Attempt) → IsOnBoard graph bounds ws → IsFitting graph a
     → walks_in (tried scale graph (points_all graph first) (whole_sketch bounds (points_all graph ws) ws) a) ≡ improving graph bounds (weight_by scale graph first) ws a
@@ -207,8 +203,6 @@ tried_on_walks graph fit scale first bounds ws a on_board fits =
         by_test : (t : Bool) → walks_in (cond t (Some new) None) ≡ cond t (Some (walks_of new)) None
         by_test true = refl
         by_test false = refl
-
--- ---- attempts one after another
 
 -- a whole legal drawing on a board
 pub record IsGood (graph : GraphParts) (bounds : Bounds) (k : Sketch) : Type 0 where

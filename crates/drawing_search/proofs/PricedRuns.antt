@@ -15,8 +15,6 @@ use Rattle.drawing_search.proofs.Common.{PlainWalk, Scale, SegId, Sketch}
 use Rattle.drawing_search.proofs.FieldFacts.{pair_joined, IsJoined, of_two}
 use Rattle.drawing_search.proofs.TurnSums.{cost_parts, steps_append, steps_back, steps_cost, turn_over_cut, turn_same_back, turns_append, turns_back}
 
--- ---- the walks of segments
-
 -- each segment of steps has its piece
 abbrev pub HavePieces : GraphParts → NodeId → List ChainStep → List PlainWalk → Sketch → Type 0
 HavePieces graph n [] vs k = Unit {0}

@@ -11,8 +11,6 @@ same_list d [] (y ∷ ys) each same = absurd (omega (arith, each))
 same_list d (x ∷ xs) [] each same = absurd (omega (arith, each))
 same_list d (x ∷ xs) (y ∷ ys) each same = ap₂ (λ z zs. z ∷ zs) (same 0 (omega arith)) (same_list d xs ys (omega (arith, each)) (λ i h. same (suc i) (omega (arith, h))))
 
--- ---- nodes
-
 -- node n is one of these
 abbrev pub IsPut : ℕ → List (NodeId × GridPoint) → Type 0
 IsPut n ms = (m : NodeId × GridPoint) × In m ms × (m.0.0 ≡ n)
@@ -137,8 +135,6 @@ can_walk_each j (m ∷ ms) can once = (can m (inl refl), can_walk_each (walked_b
     later p i =
         let c = can p (inr i) in
         record { segment = omega (arith, c.segment, length-set j.walks m.0.0 (Some m.1)); free = get_or-set_other j.walks m.0.0 p.0.0 (Some m.1) None (λ e. once.0 (p, i, e)) ∙ c.free; inside = c.inside }
-
--- ---- all of it
 
 -- what a drawing lacks, as it was before: each node that doesn't stand, and each segment without a walk, each once
 pub record IsLack (whole j : Sketch) (moved inner : List (NodeId × GridPoint)) (walks : List (SegId × PlainWalk)) : Type 0 where

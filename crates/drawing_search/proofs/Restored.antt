@@ -29,8 +29,6 @@ pub length-pieces_along : (graph : GraphParts) (k : Sketch) (n : NodeId) (ts : L
 length-pieces_along graph k n [] = refl
 length-pieces_along graph k n (t ∷ ts) = ap (λ m. suc m) (length-pieces_along graph k t.to ts)
 
--- ---- one step
-
 -- a drawing is another one, but for walks of steps, and for nodes to which they lead
 pub record IsBut (old : Sketch) (ts : List ChainStep) (k : Sketch) : Type 0 where
   pub bounds : k.bounds ≡ old.bounds

@@ -115,8 +115,6 @@ least_allowed scale graph k c way d e leaves arrives =
     (in_mapped (least_by scale graph k c way d) (allowed_dirs graph k (end_of c).0 (last_seg_of c)) e
     (kept_in (λ f. eqb (bit_at (ports_for graph k (end_of c).0 (last_seg_of c)) (number_of f)) 1) directions e (every_direction e) arrives)))
 
--- ---- prices
-
 -- the price of a run's turns, and that no turn is free where there is one
 pub record IsPriced (scale : Scale) (graph : GraphParts) (ts : List ChainStep) : Type 0 where
   pub price : IsPrice scale graph (turn_price scale graph ts) ts

@@ -105,8 +105,6 @@ module _ (graph : GraphParts) (fit : IsConsistent graph) (k : Sketch) (h : IsLeg
       all_laid_along graph most c k new w by.found by.enough
       (sym (ap₂ (λ (ts : List ChainStep) (vs : List PlainWalk). with_pieces graph at ts vs new) (drop_all i c.steps past) (drop_all i pieces (omega (arith, past, length-pieces w count)))) ∙ rest)
 
--- ---- a run under way
-
 -- the run is laid up to step i, from which the rest of it comes
 pub record IsUnderWay (graph : GraphParts) (k : Sketch) (c : Chain) (most : ℕ) (ps : List GridPoint) (ds : List Dir) (cs : List ℕ) (i : ℕ) (at : NodeId) (mid : Sketch) : Type 0 where
   pub walk : PlainWalk

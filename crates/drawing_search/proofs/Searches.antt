@@ -46,8 +46,6 @@ module _ (try : List PlainWalk → Attempt → Option (List PlainWalk)) (attempt
     ),
   )
 
--- ---- a search under way: passes over groups of attempts
-
 -- the attempts of groups, one group after another
 pub tries_more : (scale : Scale) (graph : GraphParts) (first : List GridPoint) (most : ℕ) (groups : List Group) (i : ℕ) (d : Group) (f : Tried) → i < length groups
     → after_tries scale graph first most (attempts_of (drop i groups)) f ≡ after_tries scale graph first most (attempts_of (drop (i + 1) groups)) (after_tries scale graph first most (attempts_in (get_or groups i d)) f)

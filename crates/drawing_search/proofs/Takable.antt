@@ -30,8 +30,6 @@ in_mapped f [] x i = absurd i
 in_mapped f (y ∷ ys) x (inl e) = inl (ap f e)
 in_mapped f (y ∷ ys) x (inr i) = inr (in_mapped f ys x i)
 
--- ---- nodes
-
 -- the nodes between steps may be taken off one after another
 pub next_liftable : (graph : GraphParts) (k : Sketch) (ts : List ChainStep) (i : ℕ) (d : ChainStep) → 1 ≤ i → i < length ts → AreLiftable graph k (inner_nodes (drop (i - 1) ts))
     → IsLiftable graph k (get_or ts (i - 1) d).to × AreLiftable graph (lifted k (get_or ts (i - 1) d).to) (inner_nodes (drop (i + 1 - 1) ts))
@@ -84,8 +82,6 @@ pub same_walks_off : (k : Sketch) (ts : List ChainStep) (s : SegId) → IsOff ts
 same_walks_off k [] s off = refl
 same_walks_off k (t ∷ ts) s off =
     same_walks_off (with_walk_of k t.seg None) ts s (λ q m e. off q (inr m) e) ∙ get_or-set_other k.walks t.seg.0 s.0 None None (λ e. off t (inl refl) (sym e))
-
--- ---- runs
 
 -- a segment is on steps, or not
 pub on_or_off : (ts : List ChainStep) (s : SegId) → ((q : ChainStep) × In q ts × (q.seg.0 ≡ s.0)) ⊎ IsOff ts s

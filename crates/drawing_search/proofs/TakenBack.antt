@@ -8,8 +8,6 @@ use Rattle.drawing_search.proofs.Common.{PlainWalk, SegId, Sketch}
 use Rattle.drawing_search.proofs.Takable.{legal_without, none_left, run_takable, same_stand, same_walks_off, still_none}
 use Rattle.drawing_search.proofs.TakenOff.{gone, lifted_legal, still_gone}
 
--- ---- nodes
-
 -- node n is one of these
 abbrev pub IsOneOf : List NodeId → ℕ → Type 0
 IsOneOf ns n = (m : NodeId) × In m ns × (m.0 ≡ n)
@@ -91,8 +89,6 @@ takable_each graph fit (c ∷ cs) k h runs beside stand =
     still : (d : Chain) → In d cs → (m : NodeId) → In m (inner_nodes d.steps) → is_standing (without_run k c) m.0 ≡ true
     still d i m j =
         run_stands k c m.0 (inner_beside graph fit c d (runs c (inl refl)) (runs d (inr i)) (λ q p on_c on_d. beside_off c cs beside d i q p on_c on_d) m j) ∙ stand d (inr i) m j
-
--- ---- what was laid is as it was but on the runs
 
 -- a node lies between the ends of one of these runs, and a segment is on one of them
 abbrev pub IsInnerOf : List Chain → ℕ → Type 0

@@ -24,8 +24,6 @@ still_gone d (x ∷ xs) zero (suc j) e = e
 still_gone d (x ∷ xs) (suc i) zero e = e
 still_gone d (x ∷ xs) (suc i) (suc j) e = still_gone d xs i j e
 
--- ---- a walk
-
 -- some segment round a node has a walk
 abbrev pub has_walk_at : GraphParts → Sketch → NodeId → Bool
 has_walk_at graph k n = list_any (λ (t : SegId). is_some (walk_in k t)) (round_of graph n)
@@ -199,8 +197,6 @@ module _ (graph : GraphParts) (fit : IsConsistent graph) (k : Sketch) (h : IsLeg
       is_node = (board_of k).is_node;
       is_taken = λ d. same_test ((board_of off).is_taken d) (freed d) (there d) (back d) i;
     }
-
--- ---- a node
 
 -- no walk ends at a node that is taken off
 pub lifted_legal : (graph : GraphParts) (k : Sketch) → IsLegalSketch graph k → (n : NodeId) → ((t : SegId) (v : PlainWalk) → walk_in k t ≡ Some v → IsEndOf graph t n.0 → ⊥) → IsLegalSketch graph (lifted k n)

@@ -126,8 +126,6 @@ module _ (scale : Scale) (graph : GraphParts) (first : List GridPoint) where
         same = λ s. rest.same (omega (arith, s, one.more, rest.more)) ∙ one.same (omega (arith, s, one.more, rest.more));
       }
 
-  -- ---- a group under way
-
   -- what its attempts change was taken off a drawing, from which those that are left come to what all of them come to
   pub record IsTrying (g : Group) (most : ℕ) (start : Tried) (i : ℕ) (k : Sketch) (weight made : ℕ) (l : Lifted) : Type 0 where
     pub whole : Sketch
