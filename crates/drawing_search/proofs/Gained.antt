@@ -18,7 +18,7 @@ use Rattle.drawing_search.proofs.Common.{IsInner, IsLegalSketch, IsRun, LeadsTo,
 use Rattle.drawing_search.proofs.Common.{SegId, Sketch}
 use Rattle.drawing_search.proofs.FieldFacts.{pair_joined, IsJoined, of_two}
 use Rattle.drawing_search.proofs.Growing.{grown, in_range, is_one_of, same_sum, sum_both, sum_grows, sum_map, AreDifferent}
-use Rattle.drawing_search.proofs.TurnSums.{turn_same_back}
+use Rattle.drawing_search.proofs.StraightWays.{turn_same_back}
 use Rattle.drawing_search.proofs.Takable.{inner_apart, from_map, in_mapped}
 
 -- ---- which segments of a run end where

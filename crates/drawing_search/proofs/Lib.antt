@@ -26,12 +26,10 @@ mod Restored
 pub mod Lifts
 mod LiftedGroups
 -- bounds: sums of turns, straight ways, prices of turns, the limit of a walk; fewer ports, and runs one after another
-mod TurnSums
 mod StraightWays
 mod PricedRuns
 mod RunBounds
 mod LeastTurning
-mod Spaced
 pub mod LaidAll
 mod LaidBack
 mod LayingAll
@@ -41,7 +39,6 @@ mod LayLoop
 mod OnWalks
 -- and what an attempt takes off, moves and lays
 mod Moving
-mod Attempting
 mod AttemptCases
 mod AttemptReads
 mod TriedGroups

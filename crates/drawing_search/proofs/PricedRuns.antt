@@ -13,7 +13,7 @@ use Rattle.drawing_search.proofs.Common.{walk_weight_if, with_piece, with_pieces
 use Rattle.drawing_search.proofs.Common.{GraphParts, GridPoint, In, IsConsistent, IsCut, LeadsTo, MeetAlone, NodeId}
 use Rattle.drawing_search.proofs.Common.{PlainWalk, Scale, SegId, Sketch}
 use Rattle.drawing_search.proofs.FieldFacts.{pair_joined, IsJoined, of_two}
-use Rattle.drawing_search.proofs.TurnSums.{cost_parts, steps_append, steps_back, steps_cost, turn_over_cut, turn_same_back, turns_append, turns_back}
+use Rattle.drawing_search.proofs.StraightWays.{cost_parts, steps_append, steps_back, steps_cost, turn_over_cut, turn_same_back, turns_append, turns_back}
 
 -- each segment of steps has its piece
 abbrev pub HavePieces : GraphParts → NodeId → List ChainStep → List PlainWalk → Sketch → Type 0

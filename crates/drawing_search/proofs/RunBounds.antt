@@ -19,8 +19,7 @@ use Rattle.drawing_search.proofs.Common.{IsBoundOf, IsClearFor, IsConsistent, Is
 use Rattle.drawing_search.proofs.Common.{NodeId, PlainWalk, Scale, SegId, Sketch}
 use Rattle.drawing_search.proofs.Gained.{end_turns, from_turns}
 use Rattle.drawing_search.proofs.PricedRuns.{have_pieces, leads_apart, priced_run, HavePieces, IsPrice}
-use Rattle.drawing_search.proofs.StraightWays.{walk_turns, way_small}
-use Rattle.drawing_search.proofs.TurnSums.{cost_parts, steps_cost}
+use Rattle.drawing_search.proofs.StraightWays.{walk_turns, way_small, cost_parts, steps_cost}
 use Rattle.drawing_search.proofs.Takable.{in_mapped}
 use Rattle.octi_grid.specs.declared.dir.Dir.TheVariants as dir
 

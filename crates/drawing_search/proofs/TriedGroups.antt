@@ -6,7 +6,7 @@ use Rattle.drawing_search.proofs.Common.{if_below, le-leb, leb-false, lt-leb, lt
 use Rattle.drawing_search.proofs.Common.{sketch_weight, tried, with_tried, without, All, AreApart, Attempt, CameOf}
 use Rattle.drawing_search.proofs.Common.{Chain, Dir, GraphParts, GridPoint, Group, IsFitting, IsLifted, IsSettled}
 use Rattle.drawing_search.proofs.Common.{IsTaken, IsTriedFrom, Lifted, NodeId, Scale, Sketch, Tried, Vector}
-use Rattle.drawing_search.proofs.Attempting.{lifted_alike}
+use Rattle.drawing_search.proofs.AttemptCases.{lifted_alike}
 use Rattle.drawing_search.proofs.Lifts.{group_of, IsGroup}
 use Rattle.octi_grid.specs.declared.dir.Dir.TheVariants as dir
 
