@@ -1,7 +1,17 @@
 -- The cases of an attempt: its nodes have no room, its runs add too much, they can't be laid, or the drawing gets lighter.
 use Rattle.std.proofs.Common.{◌≡◌, refl, sym, ◌∙◌, ap, subst, ℕ, ◌+◌, ◌<◌, ◌≤◌, Bool, true, false, cond, eqb, List, [], ◌∷◌, length, fold, map, get_or, set, Option, Some, None, ◌⊎◌, inl, inr, arith, length-set, get_or-set_same, get_or-set_other, nat_lt}
 use Rattle.drawing_search.specs.Changes.{point_after}
-use Rattle.drawing_search.proofs.Common.{all_moved, apart_weight_by, attempt_by, cases_eq, end_of, eq-eqb, first_point, gains_at_least, has_room, in_at, inner_nodes, is_standing, lifted, may_move, moved_by, ne_eqb, nowhere, point_of_node, sketch_weight, stands_below, stood_at, sum_by, without, AreAlike, AreAllLaid, AreApart, AreLayable, AreLiftable, CameOf, CanStandEach, Chain, GraphParts, GridPoint, Group, In, IsClearFor, IsConsistent, IsFitting, IsFreeFor, IsLegalSketch, IsLifted, IsSettled, Lifted, NodeId, PlainWalk, Scale, Sketch, Vector, all_laid, attempted_on, beside_off, get_or-map-range_with_len, if_below, if_laid, laid, laid_on, least_beside, ltb-true, range_with_len, slice_index, still_clear, taken_off, tried, AreBeside, Attempt, HaveBounds, HaveLeast, IsBoundOf, IsRun, IsWhole, LeastTurns}
+use Rattle.drawing_search.proofs.Common.{all_laid, all_moved, apart_weight_by, attempt_by, attempted_on, beside_off}
+use Rattle.drawing_search.proofs.Common.{cases_eq, end_of, eq-eqb, first_point, gains_at_least}
+use Rattle.drawing_search.proofs.Common.{get_or-map-range_with_len, has_room, if_below, if_laid, in_at, inner_nodes}
+use Rattle.drawing_search.proofs.Common.{is_standing, laid, laid_on, least_beside, lifted, ltb-true, may_move, moved_by}
+use Rattle.drawing_search.proofs.Common.{ne_eqb, nowhere, point_of_node, range_with_len, sketch_weight, slice_index}
+use Rattle.drawing_search.proofs.Common.{stands_below, still_clear, stood_at, sum_by, taken_off, tried, without}
+use Rattle.drawing_search.proofs.Common.{AreAlike, AreAllLaid, AreApart, AreBeside, AreLayable, AreLiftable, Attempt}
+use Rattle.drawing_search.proofs.Common.{CameOf, CanStandEach, Chain, GraphParts, GridPoint, Group, HaveBounds}
+use Rattle.drawing_search.proofs.Common.{HaveLeast, In, IsBoundOf, IsClearFor, IsConsistent, IsFitting, IsFreeFor}
+use Rattle.drawing_search.proofs.Common.{IsLegalSketch, IsLifted, IsRun, IsSettled, IsWhole, LeastTurns, Lifted, NodeId}
+use Rattle.drawing_search.proofs.Common.{PlainWalk, Scale, Sketch, Vector}
 use Rattle.drawing_search.proofs.Alikes.{alike_self, legal_alike, alike_on, laid_alike, same_weight, ComesAlike}
 use Rattle.drawing_search.proofs.LaidAll.{same_gains}
 use Rattle.drawing_search.proofs.LayingAll.{least_of, too_heavy, IsReady}

@@ -12,9 +12,8 @@ use Rattle.drawing_search.proofs.Common.{LeastTurns, Lifted, NodeId, Scale, Sket
 use Rattle.drawing_search.proofs.AttemptCases.{can_move, case_failed, case_heavy, case_made, case_no_room, layable_moved, least_moved, moved_may_lift, ready_moved, weight_moved}
 use Rattle.drawing_search.proofs.FewSteps.{apart_few}
 use Rattle.drawing_search.proofs.LayingAll.{least_of}
-use Rattle.drawing_search.proofs.Nearby.{on_board_near, stands_near}
 use Rattle.drawing_search.proofs.RunReads.{run_from, run_to}
-use Rattle.drawing_search.proofs.Takable.{from_map}
+use Rattle.drawing_search.proofs.Takable.{from_map, on_board_near, stands_near}
 
 all_mapped : {X Y : Type 0} (P : Y → Type 0) (f : X → Y) (xs : List X) → ((x : X) → In x xs → P (f x)) → All P (map f xs)
 all_mapped P f xs h = λ i d below. let found = from_map f xs (get_or (map f xs) i d) (in_at (map f xs) i d below) in subst P (sym found.2) (h found.0 found.1)

@@ -5,7 +5,20 @@ use Rattle.walk_search.specs.Reaching.{reach_of}
 use Rattle.segment_router.proofs.ClockLemmas.{bit_told}
 use Rattle.segment_router.proofs.RouteLemmas.{in_filter, route_parts, IsRoute}
 use Rattle.run_laying.proofs.RunFacts.{IsOff}
-use Rattle.drawing_search.proofs.Common.{after, allowed_dirs, allows, bit_at, board_of, board_under, cases_eq, cost_of, directions, end_after, end_at, end_below, end_of, end_point, eq-eqb, first_leads, first_seg_of, flat_map, from_flat_map, gains_at_least, in_round, inner_nodes, is_allowed, is_standing, laid, last_seg, last_seg_of, leads_from, leads_to, least_beside, least_by, mul-le-mul_left, never, nowhere, number_of, pairs_at, point_of_node, port_at_node, port_by, ports_for, run_gain, same_walk, sketch_weight, slice_index, split_end, stands_below, stops_from, straight_way, sum_by, sum_by-cons, true≢false, turn_by, turn_over, turns_by, walk_in, with_piece, with_pieces, with_port, with_stop, AreSteps, Chain, ChainStep, Dir, GraphParts, GridPoint, HaveBounds, In, IsBoundOf, IsClearFor, IsConsistent, IsCut, IsEndOf, IsLaidOn, IsLegalSketch, IsRun, IsSameOrNone, LeastTurns, NodeId, PlainWalk, Scale, SegId, Sketch, and_from, and_parts, distance_to, eqb-true, gaps_of, gaps_to, le-leb, leb-true, list_all, number_small, turned_over, Stop}
+use Rattle.drawing_search.proofs.Common.{after, allowed_dirs, allows, and_from, and_parts, bit_at, board_of}
+use Rattle.drawing_search.proofs.Common.{board_under, cases_eq, cost_of, directions, distance_to, end_after, end_at}
+use Rattle.drawing_search.proofs.Common.{end_below, end_of, end_point, eq-eqb, eqb-true, first_leads, first_seg_of}
+use Rattle.drawing_search.proofs.Common.{flat_map, from_flat_map, gains_at_least, gaps_of, gaps_to, in_round}
+use Rattle.drawing_search.proofs.Common.{inner_nodes, is_allowed, is_standing, laid, last_seg, last_seg_of, le-leb}
+use Rattle.drawing_search.proofs.Common.{leads_from, leads_to, least_beside, least_by, leb-true, list_all}
+use Rattle.drawing_search.proofs.Common.{mul-le-mul_left, never, nowhere, number_of, number_small, pairs_at}
+use Rattle.drawing_search.proofs.Common.{point_of_node, port_at_node, port_by, ports_for, run_gain, same_walk}
+use Rattle.drawing_search.proofs.Common.{sketch_weight, slice_index, split_end, stands_below, stops_from, straight_way}
+use Rattle.drawing_search.proofs.Common.{sum_by, sum_by-cons, true≢false, turn_by, turn_over, turned_over, turns_by}
+use Rattle.drawing_search.proofs.Common.{walk_in, with_piece, with_pieces, with_port, with_stop, AreSteps, Chain}
+use Rattle.drawing_search.proofs.Common.{ChainStep, Dir, GraphParts, GridPoint, HaveBounds, In, IsBoundOf, IsClearFor}
+use Rattle.drawing_search.proofs.Common.{IsConsistent, IsCut, IsEndOf, IsLaidOn, IsLegalSketch, IsRun, IsSameOrNone}
+use Rattle.drawing_search.proofs.Common.{LeastTurns, NodeId, PlainWalk, Scale, SegId, Sketch, Stop}
 use Rattle.drawing_search.proofs.Gained.{leads_where, run_gained, same_point}
 use Rattle.drawing_search.proofs.RunBounds.{fold_least, least_allowed, run_no_less, run_within}
 use Rattle.drawing_search.proofs.Takable.{on_or_off, from_map}

@@ -13,7 +13,6 @@ mod LaySteps
 mod RunSteps
 -- runs and nodes that are taken off and put back; drawings that differ where nodes lie that don't stand
 pub mod Takable
-mod Nearby
 mod PutBack
 mod TakenBack
 mod Alikes
@@ -33,7 +32,6 @@ mod LeastTurning
 pub mod LaidAll
 mod LaidBack
 mod LayingAll
-mod RunLaid
 mod LayLoop
 -- attempts on whole drawings are those on their walks
 mod OnWalks

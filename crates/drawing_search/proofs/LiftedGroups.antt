@@ -9,7 +9,7 @@ use Rattle.drawing_search.proofs.Common.{Chain, GraphParts, GridPoint, Group, Ha
 use Rattle.drawing_search.proofs.Common.{IsLegalSketch, IsLifted, IsRun, IsSettled, IsSmallLeast, IsTakable, LeastTurns}
 use Rattle.drawing_search.proofs.Common.{Lifted, NodeId, PlainWalk, Scale, SegId, Sketch}
 use Rattle.drawing_search.proofs.Lifts.{all_liftable, can_put_back, legal_then, lifted_at, node_weighs, off_alike, put_back_is, run_weighs_then, same_points_along, same_walks_along, taken, IsGroup}
-use Rattle.drawing_search.proofs.Nearby.{stands_near}
+use Rattle.drawing_search.proofs.Takable.{stands_near}
 use Rattle.drawing_search.proofs.TakenBack.{lift_legal, lift_points, runs_points}
 use Rattle.drawing_search.specs.declared.gains.Field.{Field}
 use Rattle.drawing_search.proofs.TriedGroups.{group_is}

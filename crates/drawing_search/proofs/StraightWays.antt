@@ -3,7 +3,10 @@ use Rattle.std.proofs.Common.{◌≡◌, refl, sym, ◌∙◌, ap, ap₂, subst,
 use Rattle.octi_grid.proofs.RunLemmas.{last_of-push}
 use Rattle.walk_search.proofs.TurnsDue.{turn_shorter}
 use Rattle.drawing_weights.proofs.LeastWeights.{all_one_way}
-use Rattle.drawing_search.proofs.Common.{after, after-replicate, diagonal, eq-eqb, int_lt, ints, last_of, ne_eqb, number_of, straight_way, turn_between, turns_at_least, turns_of, Dir, GridPoint, clockwise_from, map-append, number_small, reverse-append, reverse_of, step_cost, turn_back, turn_none, turned, way_cost}
+use Rattle.drawing_search.proofs.Common.{after, after-replicate, clockwise_from, diagonal, eq-eqb, int_lt, ints}
+use Rattle.drawing_search.proofs.Common.{last_of, map-append, ne_eqb, number_of, number_small, reverse-append}
+use Rattle.drawing_search.proofs.Common.{reverse_of, step_cost, straight_way, turn_back, turn_between, turn_none}
+use Rattle.drawing_search.proofs.Common.{turned, turns_at_least, turns_of, way_cost, Dir, GridPoint}
 use Rattle.octi_grid.specs.declared.dir.Dir.TheVariants as dir
 
 -- the steps alone, without turns

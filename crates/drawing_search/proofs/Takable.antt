@@ -1,12 +1,15 @@
 -- Runs that stand may be taken off the board: first their walks, then the nodes between their ends.
-use Rattle.std.proofs.Common.{◌≡◌, refl, sym, ◌∙◌, ap, subst, ℕ, zero, suc, ◌+◌, ◌-◌, ◌<◌, ◌≤◌, true, false, List, [], ◌∷◌, length, drop, get_or, Contains, Some, None, ◌⊎◌, inl, inr, arith, get_or-set_other, take, map}
+use Rattle.std.proofs.Common.{◌≡◌, refl, sym, ◌∙◌, ap, subst, ℕ, zero, suc, ◌+◌, ◌-◌, ◌<◌, ◌≤◌, true, false, List, [], ◌∷◌, length, drop, get_or, Contains, Some, None, ◌⊎◌, inl, inr, arith, get_or-set_other, take, map, Bool}
+use Rattle.grid_board.proofs.Within.{inside_facts}
 pub use Rattle.segment_router.proofs.RouteLemmas.{in_map as from_map}
 use Rattle.run_laying.proofs.RunFacts.{IsOff}
-use Rattle.drawing_search.proofs.Common.{cases_eq, cases_lt, contains_in, get_or_past, inner_nodes, inner_of, inner_off}
-use Rattle.drawing_search.proofs.Common.{is_standing, leads_to, lifted, once_first, walk_in, with_walk_of}
-use Rattle.drawing_search.proofs.Common.{without_walks, AreApart, AreLiftable, AreOnce, AreSteps, Chain, ChainStep}
-use Rattle.drawing_search.proofs.Common.{GraphParts, In, IsConsistent, IsEndOf, IsLegalSketch, IsLiftable, IsRun}
-use Rattle.drawing_search.proofs.Common.{IsTakable, NodeId, PlainWalk, SegId, Sketch}
+use Rattle.drawing_search.proofs.Common.{and_from, cases_eq, cases_lt, contains, contains_in, get_or_past, in_at}
+use Rattle.drawing_search.proofs.Common.{inner_nodes, inner_of, inner_off, ints, is_near, is_standing, le-leb, leads_to}
+use Rattle.drawing_search.proofs.Common.{lifted, nat_le, once_first, point_of_node, short_inside, unsigned_abs, walk_in}
+use Rattle.drawing_search.proofs.Common.{with_walk_of, without_walks, All, AreApart, AreBounds, AreLiftable, AreOnce}
+use Rattle.drawing_search.proofs.Common.{AreSteps, Bounds, Chain, ChainStep, GraphParts, GridPoint, In, IsConsistent}
+use Rattle.drawing_search.proofs.Common.{IsEndOf, IsLegalSketch, IsLiftable, IsRun, IsShort, IsTakable, NodeId}
+use Rattle.drawing_search.proofs.Common.{PlainWalk, SegId, Sketch}
 use Rattle.drawing_search.proofs.RunEnds.{inner_left}
 use Rattle.drawing_search.proofs.TakenOff.{gone, lifted_legal, off_legal, still_gone}
 
@@ -122,3 +125,38 @@ run_takable graph fit k c h run stands = record {
         by_run : ((q : ChainStep) × In q c.steps × (q.seg.0 ≡ t.0)) ⊎ IsOff c.steps t → ⊥
         by_run (inl (q, on, same)) = let none : None ≡ Some v = sym (none_left k c.steps q on) ∙ ap (λ j. get_or (without_walks k c.steps).walks j None) same ∙ e in cc
         by_run (inr off) = inner_off graph fit c.steps m (inner_of graph fit c.from c.steps run.steps m i) t (walk_below graph (without_walks k c.steps) legal t v e) off is_end
+
+-- ---- what stands on the board of a legal sketch lies near the origin, and its walks are short
+
+pub on_board_near : (b : Bounds) → AreBounds b → (p : GridPoint) → contains b p ≡ true → is_near 2000 p ≡ true
+on_board_near b h p e =
+    let i = inside_facts b p e in
+    and_from (nat_le (unsigned_abs p.x) 2000) (nat_le (unsigned_abs p.y) 2000)
+    (le-leb (unsigned_abs p.x) 2000 (omega (arith, ints, h.left.low, h.right.high, i.west, i.east))) (le-leb (unsigned_abs p.y) 2000 (omega (arith, ints, h.bottom.low, h.top.high, i.south, i.north)))
+
+-- ---- legal sketches
+
+module _ (graph : GraphParts) (k : Sketch) (h : IsLegalSketch graph k) where
+  pub stands_near : (n : ℕ) → is_standing k n ≡ true → is_near 2000 (point_of_node k n) ≡ true
+  stands_near n stands = on_board_near k.bounds h.bounds (point_of_node k n) (h.inside n stands)
+
+  pub walk_short : (s : SegId) (w : PlainWalk) → walk_in k s ≡ Some w → IsShort w
+  walk_short s w e = short_inside k.bounds h.bounds w (h.once s w e) (h.within s w e)
+
+-- ---- nodes that may be taken off stand
+
+stood_before : (graph : GraphParts) (k : Sketch) (n : NodeId) (m : ℕ) → IsLiftable graph k n → is_standing (lifted k n) m ≡ true → is_standing k m ≡ true
+stood_before graph k n m can e = by_number (cases_eq m n.0)
+  where
+    by_number : (m ≡ n.0) ⊎ (m ≡ n.0 → ⊥) → is_standing k m ≡ true
+    by_number (inl same) = ap (is_standing k) same ∙ can.stands
+    by_number (inr other) = sym (get_or-set_other k.stand n.0 m false false other) ∙ e
+
+pub liftable_stands : (graph : GraphParts) (k : Sketch) (ns : List NodeId) → AreLiftable graph k ns → (m : NodeId) → In m ns → is_standing k m.0 ≡ true
+liftable_stands graph k [] can m i = absurd i
+liftable_stands graph k (n ∷ ns) can m (inl e) = ap (λ (x : NodeId). is_standing k x.0) e ∙ can.0.stands
+liftable_stands graph k (n ∷ ns) can m (inr i) = stood_before graph k n m.0 can.0 (liftable_stands graph (lifted k n) ns can.1 m i)
+
+pub takable_stands : (graph : GraphParts) (k : Sketch) (c : Chain) → IsTakable graph k c → All (λ (n : NodeId). is_standing k n.0 ≡ true) (inner_nodes c.steps)
+takable_stands graph k c can = λ i d below.
+    ap (λ (fs : List Bool). get_or fs (get_or (inner_nodes c.steps) i d).0 false) (sym (same_stand k c.steps)) ∙ liftable_stands graph (without_walks k c.steps) (inner_nodes c.steps) can.inner (get_or (inner_nodes c.steps) i d) (in_at (inner_nodes c.steps) i d below)

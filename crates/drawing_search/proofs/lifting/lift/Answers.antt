@@ -1,7 +1,7 @@
 use Rattle.std.proofs.Common.{refl, ◌≤◌, List, ◌∷◌, ◌++◌, [], length, get_or, ap, subst, ◌∙◌, arith}
 use Rattle.drawing_search.proofs.Common.{apart_weight_by, first_point, is_near, scale_of, Chain, GridPoint, NodeId}
 use Rattle.drawing_search.proofs.LiftedGroups.{group_lifted, least_asks, least_begin, least_more, node_fits, node_lifted, node_ready, nodes_begin, run_fits, run_lifted, run_takable, runs_begin}
-use Rattle.drawing_search.proofs.Nearby.{takable_stands}
+use Rattle.drawing_search.proofs.Takable.{takable_stands}
 use Rattle.drawing_search.proofs.lifting.lift.Goals as goal
 
 abbrev none : NodeId

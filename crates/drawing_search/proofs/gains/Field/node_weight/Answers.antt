@@ -2,7 +2,7 @@ use Rattle.std.proofs.Common.{◌≡◌, ◌∙◌, ◌+◌, ◌*◌, true, cond
 use Rattle.drawing_search.proofs.Common.{apart_in, apart_weight_by, first_point, is_near, scale_of, sum_by, sum_by_more}
 use Rattle.drawing_search.proofs.Common.{take_all, turn_in, GridPoint}
 use Rattle.drawing_search.proofs.FieldFacts.{no_pair, pair_at, pairs_held, pairs_read, turns_small}
-use Rattle.drawing_search.proofs.Nearby.{stands_near}
+use Rattle.drawing_search.proofs.Takable.{stands_near}
 use Rattle.drawing_search.proofs.gains.Field.node_weight.Goals as goal
 
 pub at-pair-items-requires : goal.at-pair-items-requires

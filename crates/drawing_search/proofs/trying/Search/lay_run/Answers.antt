@@ -3,7 +3,7 @@ use Rattle.drawing_search.proofs.Common.{laid, laid_within, limit_between, point
 use Rattle.drawing_search.proofs.Common.{straight_way, AreAlike, GridPoint, IsLaid, NodeId, Sketch}
 use Rattle.drawing_search.proofs.Alikes.{alike_self}
 use Rattle.drawing_search.proofs.LayingAll.{laid_from_within}
-use Rattle.drawing_search.proofs.RunLaid.{one_back, one_fails, one_heavy, one_inner, one_legal, one_takable}
+use Rattle.drawing_search.proofs.LaidBack.{one_back, one_fails, one_heavy, one_inner, one_legal, one_takable}
 use Rattle.drawing_search.proofs.RunReads.{run_from, run_to}
 use Rattle.drawing_search.proofs.trying.Search.lay_run.Goals as goal
 
