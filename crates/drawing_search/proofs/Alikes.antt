@@ -72,7 +72,7 @@ module _ (j k : Sketch) (a : AreAlike j k) where
   pub same_weight : (scale : Scale) (graph : GraphParts) (first : List GridPoint) → sketch_weight scale graph first j ≡ sketch_weight scale graph first k
   same_weight scale graph first =
       λ i. sum_by (λ s. walk_weight_if scale (same_walk (record { 0 = s }) i)) (range_with_len 0 (length graph.ends))
-          + sum_by (λ n. same_node scale graph first n i) (range_with_len 0 (length graph.kinds))
+      + sum_by (λ n. same_node scale graph first n i) (range_with_len 0 (length graph.kinds))
 
   -- ---- the same walk of a run
 
