@@ -1,32 +1,17 @@
 -- Drawings in the making that differ at most in where nodes lie that don't stand: they have one board, weigh the same, and
 -- the same runs can be laid on them.
 use Rattle.std.proofs.Common.{◌≡◌, refl, sym, ◌∙◌, ap, ap₂, subst, ℕ, zero, suc, ◌+◌, ◌*◌, Bool, true, false, cond, not, nat_le, List, [], ◌∷◌, length, get_or, set, replicate, zip, Option, Some, None, ◌⊎◌, inl, inr, arith, length-set, get_or-set_other}
-use Rattle.std.proofs.lemmas.Bool.{cases_eq}
-use Rattle.std.specs.List.{filter_map, list_all, list_any, range_with_len, sum_by}
-use Rattle.map_base.specs.declared.ids.NodeId.{NodeId}
-use Rattle.map_base.specs.declared.ids.SegId.{SegId}
-use Rattle.graph_core.specs.declared.parts.GraphParts.{GraphParts}
-use Rattle.line_chains.specs.declared.chain.Chain.{Chain}
-use Rattle.line_chains.specs.declared.chain.ChainStep.{ChainStep}
-use Rattle.line_chains.specs.Chains.{end_of, ends_of}
-use Rattle.octi_grid.specs.declared.dir.Dir.{Dir}
-use Rattle.octi_grid.specs.declared.point.GridPoint.{GridPoint}
-use Rattle.octi_grid.specs.Ways.{are_one, doubled}
-use Rattle.octi_grid.specs.Legal.{are_clockwise, is_among, is_even}
-use Rattle.octi_grid.specs.Walks.{doubled_of, end_point, points_of, PlainWalk}
-use Rattle.grid_board.specs.declared.bounds.Bounds.{Bounds}
-use Rattle.grid_board.specs.Boards.{contains, AreBounds, BoardParts}
-use Rattle.walk_search.specs.declared.ends.End.{End}
-use Rattle.walk_search.specs.Routes.{route}
-use Rattle.segment_router.specs.Ports.{allowed_mask}
-use Rattle.segment_router.specs.Routes.{end_at, has_doubled, port_at_node, port_by}
-use Rattle.segment_router.proofs.SettledLemmas.{nowhere}
-use Rattle.drawing_weights.specs.Scales.{apart_weight_by, turn_over, Scale}
-use Rattle.run_laying.specs.Laying.{board_of, board_under, first_seg_of, from_low, laid, laid_along, last_seg_of, run_walk, standing_point, standing_points, with_piece, with_pieces, Sketch}
-use Rattle.run_laying.specs.Pieces.{even_steps, pieces_of}
-use Rattle.run_laying.specs.Sketches.{is_standing, point_of_node, walk_in, IsEndOf, IsLegalSketch, IsMeeting}
-use Rattle.drawing_search.specs.Alike.{AreAlike}
-use Rattle.drawing_search.specs.Gains.{apart_in, first_point, node_weight_in, pairs_at, segment_weight, sketch_weight, turns_in, walk_weight_if}
+use Rattle.line_chains.specs.Chains.{ends_of}
+use Rattle.drawing_search.proofs.Common.{allowed_mask, apart_in, apart_weight_by, are_clockwise, are_one, board_of}
+use Rattle.drawing_search.proofs.Common.{board_under, cases_eq, contains, doubled, doubled_of, end_at, end_of}
+use Rattle.drawing_search.proofs.Common.{end_point, even_steps, filter_map, first_point, first_seg_of, from_low}
+use Rattle.drawing_search.proofs.Common.{has_doubled, is_among, is_even, is_standing, laid, laid_along, last_seg_of}
+use Rattle.drawing_search.proofs.Common.{list_all, list_any, node_weight_in, nowhere, pairs_at, pieces_of}
+use Rattle.drawing_search.proofs.Common.{point_of_node, points_of, port_at_node, port_by, range_with_len, route}
+use Rattle.drawing_search.proofs.Common.{run_walk, sketch_weight, standing_point, standing_points, sum_by, turn_over}
+use Rattle.drawing_search.proofs.Common.{walk_in, walk_weight_if, with_piece, with_pieces, AreAlike, AreBounds, Bounds}
+use Rattle.drawing_search.proofs.Common.{Chain, ChainStep, Dir, GraphParts, GridPoint, IsEndOf, IsLegalSketch}
+use Rattle.drawing_search.proofs.Common.{IsMeeting, NodeId, PlainWalk, Scale, SegId, Sketch}
 
 pub alike_self : (k : Sketch) → AreAlike k k
 alike_self k = record { bounds = refl; points_each = refl; stand = refl; walks = refl; points = λ n e. refl }
@@ -56,14 +41,8 @@ module _ (j k : Sketch) (a : AreAlike j k) where
   same_standing : standing_points j ≡ standing_points k
   same_standing = ap (λ fs. filter_map standing_point (zip fs j.points)) a.stand ∙ same_points k.stand j.points k.points a.points_each a.points
 
-  abbrev shown : Bounds → List GridPoint → List (Option PlainWalk) → BoardParts
-  shown bounds ps ws = record { bounds = bounds; is_node = λ p. list_any (λ q. are_one q p) ps; is_taken = λ d. list_any (has_doubled d) ws }
-
   pub same_board : board_of j ≡ board_of k
-  same_board =
-      ap (λ (b : Bounds). shown b (standing_points j) j.walks) a.bounds
-      ∙ ap (λ (ps : List GridPoint). shown k.bounds ps j.walks) same_standing
-      ∙ ap (λ (ws : List (Option PlainWalk)). shown k.bounds (standing_points k) ws) a.walks
+  same_board = λ i. record { bounds = a.bounds i; is_node = λ p. list_any (λ q. are_one q p) (same_standing i); is_taken = λ d. list_any (has_doubled d) (a.walks i) }
 
   pub same_stands : (n : ℕ) → is_standing j n ≡ is_standing k n
   same_stands n = ap (λ fs. get_or fs n false) a.stand
@@ -88,33 +67,26 @@ module _ (j k : Sketch) (a : AreAlike j k) where
 
   same_node : (scale : Scale) (graph : GraphParts) (first : List GridPoint) (n : ℕ) → node_weight_in scale graph first j n ≡ node_weight_in scale graph first k n
   same_node scale graph first n =
-      ap (λ (f : SegId → Option Dir). scale.overs * sum_by (λ (pair : SegId × SegId). turn_over (f pair.0) (f pair.1)) (pairs_at graph n) + cond (is_standing j n) (apart_in scale first j n) 0) (same_ports graph n)
-      ∙ ap (λ m. scale.overs * turns_in graph k n + m) (same_apart scale first n)
+      λ i. scale.overs * sum_by (λ (pair : SegId × SegId). turn_over (same_port graph n pair.0 i) (same_port graph n pair.1 i)) (pairs_at graph n) + same_apart scale first n i
 
   pub same_weight : (scale : Scale) (graph : GraphParts) (first : List GridPoint) → sketch_weight scale graph first j ≡ sketch_weight scale graph first k
   same_weight scale graph first =
-      ap (λ (f : ℕ → ℕ). sum_by f (range_with_len 0 (length graph.ends)) + sum_by (node_weight_in scale graph first j) (range_with_len 0 (length graph.kinds))) (λ i s. segments s i)
-      ∙ ap (λ (f : ℕ → ℕ). sum_by (λ s. segment_weight scale k (record { 0 = s })) (range_with_len 0 (length graph.ends)) + sum_by f (range_with_len 0 (length graph.kinds))) (λ i n. same_node scale graph first n i)
-    where
-      segments : (s : ℕ) → segment_weight scale j (record { 0 = s }) ≡ segment_weight scale k (record { 0 = s })
-      segments s = ap (walk_weight_if scale) (same_walk (record { 0 = s }))
+      λ i. sum_by (λ s. walk_weight_if scale (same_walk (record { 0 = s }) i)) (range_with_len 0 (length graph.ends))
+      + sum_by (λ n. same_node scale graph first n i) (range_with_len 0 (length graph.kinds))
 
   -- ---- the same walk of a run
 
   same_end : (graph : GraphParts) (s : SegId) (n : ℕ) → is_standing k n ≡ true → end_at graph (board_under j) s n ≡ end_at graph (board_under k) s n
   same_end graph s n e =
-      ap (λ (p : GridPoint). made p (length j.points) (port_at_node graph (board_under j) n)) (a.points n e)
-      ∙ ap (λ m. made (point_of_node k n) m (port_at_node graph (board_under j) n)) a.points_each
-      ∙ ap (λ (f : SegId → Option Dir). made (point_of_node k n) (length k.points) f) (same_ports graph n)
-    where
-      made : GridPoint → ℕ → (SegId → Option Dir) → End
-      made p m f = record { at = p; is_free = not (get_or (replicate m true) n false); ports = allowed_mask (get_or graph.rounds n []) f s }
+      λ i. record {
+        at = a.points n e i;
+        is_free = not (get_or (replicate (a.points_each i) true) n false);
+        ports = allowed_mask (get_or graph.rounds n []) (same_ports graph n i) s;
+      }
 
   pub same_run_walk : (graph : GraphParts) (c : Chain) → is_standing k c.from.0 ≡ true → is_standing k (end_of c).0 ≡ true → run_walk graph (board_under j) c ≡ run_walk graph (board_under k) c
   same_run_walk graph c from to =
-      ap (λ (b : BoardParts). route b (end_at graph (board_under j) (first_seg_of c.steps) c.from.0) (end_at graph (board_under j) (last_seg_of c) (end_of c).0)) same_board
-      ∙ ap (λ (e : End). route (board_of k) e (end_at graph (board_under j) (last_seg_of c) (end_of c).0)) (same_end graph (first_seg_of c.steps) c.from.0 from)
-      ∙ ap (λ (e : End). route (board_of k) (end_at graph (board_under k) (first_seg_of c.steps) c.from.0) e) (same_end graph (last_seg_of c) (end_of c).0 to)
+      λ i. route (same_board i) (same_end graph (first_seg_of c.steps) c.from.0 from i) (same_end graph (last_seg_of c) (end_of c).0 to i)
 
 -- ---- and the same runs are laid
 

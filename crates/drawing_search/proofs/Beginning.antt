@@ -1,41 +1,19 @@
 -- A search begins with a whole drawing on its board, and ends with one.
 use Rattle.std.proofs.Common.{◌≡◌, refl, sym, ◌∙◌, ap, ap₂, subst, ℕ, zero, suc, ◌+◌, ◌<◌, ◌≤◌, Bool, true, not, List, [], ◌∷◌, length, map, get_or, replicate, Option, Some, None, Result, Ok, Err, arith}
-use Rattle.std.proofs.lemmas.Bool.{and_from}
-use Rattle.std.proofs.lemmas.List.{get_or-map, get_or_default, length-map}
-use Rattle.std.proofs.lemmas.List.FromFn.{fill_by_all, length-map-range_with_len}
-use Rattle.std.specs.List.{filter_map, list_all, range_with_len}
-use Rattle.std.specs.Prelude.{All, IfOk}
-use Rattle.graph_core.specs.declared.parts.GraphParts.{GraphParts}
-use Rattle.graph_core.specs.Consistent.{IsConsistent}
 use Rattle.octi_grid.specs.declared.dir.Dir.TheVariants as dir
-use Rattle.octi_grid.specs.declared.point.GridPoint.{GridPoint}
-use Rattle.octi_grid.specs.Legal.{is_even}
-use Rattle.octi_grid.specs.Walks.{points_of, PlainWalk}
-use Rattle.grid_board.specs.declared.bounds.Bounds.{Bounds}
-use Rattle.grid_board.specs.Boards.{contains, AreBounds}
-use Rattle.grid_board.specs.Points.{are_near, is_near}
-use Rattle.segment_router.proofs.SettledLemmas.{nowhere}
-use Rattle.drawing_weights.specs.Drawn.{points_all, IsDrawn}
-use Rattle.drawing_weights.specs.Scales.{weight_by, Scale}
-use Rattle.drawing_weights.specs.Weights.{point_of}
-use Rattle.run_laying.specs.Attempts.{bounds_past, is_inner, walk_beside, without_runs, Attempt}
-use Rattle.run_laying.specs.Drawings.{IsOnBoard}
-use Rattle.run_laying.specs.Laying.{Sketch}
-use Rattle.run_laying.specs.Runs.{IsFitting}
-use Rattle.run_laying.specs.Sketches.{IsLegalSketch}
-use Rattle.run_laying.specs.Searches.{Found}
-use Rattle.run_laying.proofs.Kept.{kept_sketch}
-use Rattle.run_laying.proofs.Whole.{whole_legal}
-use Rattle.drawing_search.specs.declared.group.Group.{Group}
 use Rattle.drawing_search.specs.declared.searching.Searched.{Searched}
-use Rattle.drawing_search.specs.Gains.{sketch_weight}
-use Rattle.drawing_search.specs.Searched.{found_on, IsSearched, IsSearchedOn}
-use Rattle.drawing_search.specs.Shown.{whole_sketch}
-use Rattle.drawing_search.specs.Trying.{walks_of, IsWhole}
+use Rattle.drawing_search.proofs.Common.{and_from, are_near, bounds_past, contains, fill_by_all, filter_map, found_on}
+use Rattle.drawing_search.proofs.Common.{get_or-map, get_or_default, is_even, is_inner, is_near, kept_sketch}
+use Rattle.drawing_search.proofs.Common.{length-map, length-map-range_with_len, list_all, nowhere, point_of, points_all}
+use Rattle.drawing_search.proofs.Common.{points_of, range_with_len, sketch_weight, walk_beside, walks_of, weight_by}
+use Rattle.drawing_search.proofs.Common.{whole_legal, whole_sketch, without_runs, All, AreBounds, Attempt, Bounds}
+use Rattle.drawing_search.proofs.Common.{Found, GraphParts, GridPoint, Group, IfOk, IsConsistent, IsDrawn, IsFitting}
+use Rattle.drawing_search.proofs.Common.{IsLegalSketch, IsOnBoard, IsSearched, IsSearchedOn, IsWhole, PlainWalk, Scale}
+use Rattle.drawing_search.proofs.Common.{Sketch}
 use Rattle.drawing_search.proofs.OnWalks.{same_weight, sketch_by_walks, IsGood}
 use Rattle.drawing_search.proofs.RunReads.{near_more}
 use Rattle.drawing_search.proofs.Searches.{IsBetweenPasses}
-use Rattle.drawing_search.proofs.Spans.{first_within, inside_near, past_bounds}
+use Rattle.drawing_weights.proofs.Spans.{first_within, inside_near, past_bounds}
 
 -- an attempt that changes nothing
 abbrev no_attempt : Attempt
@@ -72,9 +50,7 @@ module _ (graph : GraphParts) (fit : IsConsistent graph) (bounds : Bounds) (ws :
   stand_same = ap (λ n. replicate n true) (length-map-range_with_len (point_of graph ws) 0 (length graph.kinds)) ∙ sym (all_true 0 (length graph.kinds))
 
   whole_is : without_runs graph bounds ws no_attempt ≡ whole_sketch bounds (points_all graph ws) ws
-  whole_is =
-      sym (ap (λ (fs : List Bool). (let j : Sketch = record { bounds = bounds; points = points_all graph ws; stand = fs; walks = map (λ (w : PlainWalk). Some w) ws } in j)) stand_same
-      ∙ ap (λ (os : List (Option PlainWalk)). (let j : Sketch = record { bounds = bounds; points = points_all graph ws; stand = map (λ n. not (is_inner [] n)) (range_with_len 0 (length graph.kinds)); walks = os } in j)) walks_same)
+  whole_is = λ i. record { bounds = bounds; points = points_all graph ws; stand = sym stand_same i; walks = sym walks_same i }
 
   pub whole_good : IsGood graph bounds (whole_sketch bounds (points_all graph ws) ws)
   whole_good =

@@ -1,13 +1,8 @@
 -- A whole drawing on its board, as it is made: node after node, and then walk after walk.
 use Rattle.std.proofs.Common.{◌≡◌, refl, sym, ◌∙◌, ap, ap₂, ℕ, zero, suc, ◌+◌, ◌-◌, ◌<◌, Bool, true, false, List, [], ◌∷◌, ◌++◌, length, map, get_or, replicate, set, Option, Some, None, append-nil, arith, length-append}
-use Rattle.std.proofs.lemmas.List.{length-map, length-replicate, map-append, set-get_or}
-use Rattle.octi_grid.specs.declared.point.GridPoint.{GridPoint}
-use Rattle.octi_grid.specs.Walks.{PlainWalk}
-use Rattle.grid_board.specs.declared.bounds.Bounds.{Bounds}
-use Rattle.segment_router.proofs.SettledLemmas.{nowhere}
-use Rattle.run_laying.specs.Laying.{Sketch}
-use Rattle.run_laying.specs.Sketches.{is_standing, stood, walk_in, with_walk_of}
-use Rattle.drawing_search.specs.Shown.{bare_sketch, whole_sketch}
+use Rattle.drawing_search.proofs.Common.{bare_sketch, is_standing, length-map, length-replicate, map-append, nowhere}
+use Rattle.drawing_search.proofs.Common.{set-get_or, stood, walk_in, whole_sketch, with_walk_of, Bounds, GridPoint}
+use Rattle.drawing_search.proofs.Common.{PlainWalk, Sketch}
 
 -- ---- a list whose rest is one value
 

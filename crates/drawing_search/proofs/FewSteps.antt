@@ -1,18 +1,10 @@
 -- Steps that go over no segment twice are not more than the segments.
 use Rattle.std.proofs.Common.{◌≡◌, refl, sym, ℕ, ◌<◌, ◌≤◌, true, false, eqb, List, [], ◌∷◌, length, map, ◌⊎◌, inl, inr, arith}
-use Rattle.std.proofs.lemmas.Bool.{eqb-true, ne_eqb, or_cases, true≢false}
-use Rattle.std.proofs.lemmas.List.{length-map}
 use Rattle.std.proofs.lemmas.Map.Steps.{length-le_from_distinct_below}
-use Rattle.std.specs.List.{list_any, AllByRecursion, IsDistinct}
-use Rattle.map_base.specs.declared.ids.NodeId.{NodeId}
-use Rattle.graph_core.specs.declared.parts.GraphParts.{GraphParts}
-use Rattle.graph_core.specs.Consistent.{IsConsistent}
-use Rattle.line_chains.specs.declared.chain.Chain.{Chain}
-use Rattle.line_chains.specs.declared.chain.ChainStep.{ChainStep}
-use Rattle.octi_grid.proofs.Members.{In}
-use Rattle.run_laying.specs.Runs.{AreOnce, IsRun}
-use Rattle.run_laying.proofs.RunFacts.{contains_in, once_first, step_of}
-use Rattle.drawing_search.specs.Changes.{AreApart}
+use Rattle.std.specs.List.{IsDistinct}
+use Rattle.drawing_search.proofs.Common.{contains_in, eqb-true, length-map, list_any, ne_eqb, once_first, or_cases}
+use Rattle.drawing_search.proofs.Common.{step_of, true≢false, AllByRecursion, AreApart, AreOnce, Chain, ChainStep}
+use Rattle.drawing_search.proofs.Common.{GraphParts, In, IsConsistent, IsRun, NodeId}
 
 -- no segment twice, so not more steps than segments
 distinct_of : (ts : List ChainStep) → AreOnce ts → IsDistinct eqb (map (λ (t : ChainStep). t.seg.0) ts)

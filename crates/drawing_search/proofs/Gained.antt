@@ -1,42 +1,25 @@
 -- What a run adds to the weight of a drawing on which it is laid: its walks, the nodes between its ends, and the turns of
 -- lines that go on from it at both ends.
 use Rattle.std.proofs.Common.{◌≡◌, refl, sym, ◌∙◌, ap, ap₂, subst, ℕ, ◌+◌, ◌-◌, ◌*◌, ◌<◌, ◌≤◌, true, false, cond, eqb, ◌||◌, List, [], ◌∷◌, length, map, get_or, Option, Some, None, ◌⊎◌, inl, inr, arith, get_or-set_other}
-use Rattle.std.proofs.lemmas.Bool.{cases_Bool, eq-eqb, eqb-true, or_cases, or_left, or_right, true≢false}
-use Rattle.std.proofs.lemmas.List.Sums.{sum_by-cons}
-use Rattle.std.specs.List.{range_with_len, sum_by}
-use Rattle.map_base.specs.declared.ids.NodeId.{NodeId}
-use Rattle.map_base.specs.declared.ids.SegId.{SegId}
-use Rattle.graph_core.specs.declared.parts.GraphParts.{GraphParts}
-use Rattle.graph_core.specs.Consistent.{IsConsistent}
-use Rattle.line_chains.specs.declared.chain.Chain.{Chain}
-use Rattle.line_chains.specs.declared.chain.ChainStep.{ChainStep}
-use Rattle.line_chains.specs.Chains.{end_after, end_of, ends_of, last_seg}
-use Rattle.octi_grid.specs.declared.dir.Dir.{Dir}
-use Rattle.octi_grid.specs.declared.point.GridPoint.{GridPoint}
-use Rattle.octi_grid.specs.Costs.{turn_between}
-use Rattle.octi_grid.specs.Ways.{reverse_of}
-use Rattle.octi_grid.specs.Walks.{end_point, PlainWalk}
-use Rattle.octi_grid.proofs.Members.{false_from, In}
-use Rattle.segment_router.specs.Routes.{port_at_node, port_by}
-use Rattle.segment_router.proofs.MaskLemmas.{ends_round}
-use Rattle.segment_router.proofs.Places.{same_seg}
-use Rattle.segment_router.proofs.SettledLemmas.{nowhere}
-use Rattle.drawing_weights.specs.Scales.{apart_weight_by, turn_over, Scale}
-use Rattle.run_laying.specs.Attempts.{inner_nodes}
-use Rattle.run_laying.specs.Laying.{board_under, first_seg_of, last_seg_of, with_piece, with_pieces, Sketch}
-use Rattle.run_laying.specs.Runs.{AreOnce, AreSteps, IsRun, LeadsTo, MeetAlone}
-use Rattle.run_laying.specs.Sketches.{is_standing, point_of_node, IsEndOf, IsLegalSketch}
-use Rattle.run_laying.proofs.Attempted.{IsClearFor}
-use Rattle.run_laying.proofs.LaidRuns.{keeps_lifted, keeps_standing, same_walk, to_stands}
-use Rattle.run_laying.proofs.Reversed.{twice}
-use Rattle.run_laying.proofs.Shown.{stands_below}
-use Rattle.run_laying.proofs.RunFacts.{contains_in, end_below, inner_of, leads_to, once_first, only_two, step_of, IsInner, IsOff}
-use Rattle.drawing_search.specs.Changes.{AreApart}
-use Rattle.drawing_search.specs.Gains.{apart_in, first_point, has_segment, node_weight_in, pairs_at, run_gain, segment_weight, sketch_weight, steps_gain, turn_by, turn_if, turn_in, turns_by, turns_from, turns_in, walk_weight_if}
-use Rattle.drawing_search.proofs.FieldFacts.{pair_below, pair_joined, IsJoined}
+use Rattle.line_chains.specs.Chains.{ends_of}
+use Rattle.run_laying.proofs.RunFacts.{IsOff}
+use Rattle.drawing_search.proofs.Common.{apart_in, apart_weight_by, board_under, cases_Bool, contains_in, end_after}
+use Rattle.drawing_search.proofs.Common.{end_below, end_of, end_point, ends_round, eq-eqb, eqb-true, false_from}
+use Rattle.drawing_search.proofs.Common.{first_point, first_seg_of, has_segment, inner_nodes, inner_of, is_standing}
+use Rattle.drawing_search.proofs.Common.{keeps_lifted, keeps_standing, last_seg, last_seg_of, leads_to, node_weight_in}
+use Rattle.drawing_search.proofs.Common.{nowhere, once_first, or_cases, or_left, or_right, pairs_at, point_of_node}
+use Rattle.drawing_search.proofs.Common.{port_at_node, port_by, range_with_len, reverse_of, run_gain, same_seg}
+use Rattle.drawing_search.proofs.Common.{same_walk, segment_weight, sketch_weight, stands_below, step_of, steps_gain}
+use Rattle.drawing_search.proofs.Common.{sum_by, sum_by-cons, to_stands, true≢false, turn_back, turn_between, turn_by}
+use Rattle.drawing_search.proofs.Common.{turn_if, turn_in, turn_over, turns_by, turns_from, turns_in, twice}
+use Rattle.drawing_search.proofs.Common.{walk_weight_if, with_piece, with_pieces, AreApart, AreOnce, AreSteps, Chain}
+use Rattle.drawing_search.proofs.Common.{ChainStep, Dir, GraphParts, GridPoint, In, IsClearFor, IsConsistent, IsEndOf}
+use Rattle.drawing_search.proofs.Common.{IsInner, IsLegalSketch, IsRun, LeadsTo, MeetAlone, NodeId, PlainWalk, Scale}
+use Rattle.drawing_search.proofs.Common.{SegId, Sketch}
+use Rattle.drawing_search.proofs.FieldFacts.{pair_joined, IsJoined, of_two}
 use Rattle.drawing_search.proofs.Growing.{grown, in_range, is_one_of, same_sum, sum_both, sum_grows, sum_map, AreDifferent}
-use Rattle.drawing_search.proofs.TurnSums.{turn_same_back, turn_turned}
-use Rattle.drawing_search.proofs.Takable.{inner_apart}
+use Rattle.drawing_search.proofs.StraightWays.{turn_same_back}
+use Rattle.drawing_search.proofs.Takable.{inner_apart, from_map, in_mapped}
 
 -- ---- which segments of a run end where
 
@@ -120,7 +103,7 @@ turn_none (Some d) = refl
 -- a line turns as much either way
 over_turned : (o : Option Dir) (d : Dir) → turn_over o (Some d) ≡ turn_over (Some d) o
 over_turned None d = refl
-over_turned (Some e) d = turn_turned (reverse_of e) d ∙ sym (turn_same_back d (reverse_of e)) ∙ ap (turn_between (reverse_of d)) (twice e)
+over_turned (Some e) d = turn_back (reverse_of e) d ∙ sym (turn_same_back d (reverse_of e)) ∙ ap (turn_between (reverse_of d)) (twice e)
 
 -- what is in lists of numbers
 one_of : (xs : List ℕ) (x : ℕ) → is_one_of xs x ≡ true → In x xs
@@ -140,14 +123,10 @@ none_of : (xs : List ℕ) (x : ℕ) → (In x xs → ⊥) → is_one_of xs x ≡
 none_of xs x f = false_from (is_one_of xs x) (λ e. f (one_of xs x e))
 
 mapped : {X : Type 0} (f : X → ℕ) (xs : List X) (n : ℕ) → In n (map f xs) → (x : X) × In x xs × (f x ≡ n)
-mapped f [] n i = absurd i
-mapped f (x ∷ xs) n (inl e) = (x, inl refl, sym e)
-mapped f (x ∷ xs) n (inr i) = let rest = mapped f xs n i in (rest.0, inr rest.1, rest.2)
+mapped f xs n i = let q = from_map f xs n i in (q.0, q.1, sym q.2)
 
 in_map : {X : Type 0} (f : X → ℕ) (xs : List X) (x : X) (n : ℕ) → In x xs → f x ≡ n → In n (map f xs)
-in_map f [] x n i e = absurd i
-in_map f (y ∷ ys) x n (inl same) e = inl (sym e ∙ ap f same)
-in_map f (y ∷ ys) x n (inr i) e = inr (in_map f ys x n i e)
+in_map f xs x n i e = subst (λ m. In m (map f xs)) e (in_mapped f xs x i)
 
 once_different : (ts : List ChainStep) → AreOnce ts → AreDifferent (map (λ (t : ChainStep). t.seg.0) ts)
 once_different [] once = tt
@@ -168,6 +147,10 @@ last_on : (s : SegId) (ts : List ChainStep) → 0 < length ts → (q : ChainStep
 last_on s [] some = absurd (omega (arith, some))
 last_on s (t ∷ []) some = (t, inl refl, refl)
 last_on s (t ∷ u ∷ us) some = let rest = last_on t.seg (u ∷ us) (omega arith) in (rest.0, inr rest.1, rest.2)
+
+zeros : (ps : List (SegId × SegId)) → sum_by (λ (pair : SegId × SegId). 0) ps ≡ 0
+zeros [] = refl
+zeros (p ∷ ps) = let rest = zeros ps in let all = sum_by-cons (λ (pair : SegId × SegId). 0) p ps in omega (arith, rest, all)
 
 -- ---- a run that is laid
 
@@ -198,17 +181,25 @@ module _ (graph : GraphParts) (fit : IsConsistent graph) (k : Sketch) (h : IsLeg
   same_turn n pair off other =
       ap₂ (λ (p q : Option Dir). turn_over p q) (ap (port_by (ends_of graph pair.0) n) (same_walk graph c.from c.steps pieces k pair.0 off)) (ap (port_by (ends_of graph pair.1) n) (same_walk graph c.from c.steps pieces k pair.1 other))
 
-  no_port : (n : ℕ) (s : SegId) → ((q : ChainStep) × In q c.steps × (q.seg.0 ≡ s.0)) → port_at_node graph (board_under k) n s ≡ None
+  -- a segment is on the run
+  abbrev IsOnRun : SegId → Type 0
+  IsOnRun s = (q : ChainStep) × In q c.steps × (q.seg.0 ≡ s.0)
+
+  no_port : (n : ℕ) (s : SegId) → IsOnRun s → port_at_node graph (board_under k) n s ≡ None
   no_port n s (q, i, e) = ap (port_by (ends_of graph s) n) (ap (λ j. get_or k.walks j None) (sym e) ∙ clear.walks q i)
 
-  no_turn_first : (n : ℕ) (pair : SegId × SegId) → ((q : ChainStep) × In q c.steps × (q.seg.0 ≡ pair.0.0)) → turn_in graph k n pair ≡ 0
+  no_turn_first : (n : ℕ) (pair : SegId × SegId) → IsOnRun pair.0 → turn_in graph k n pair ≡ 0
   no_turn_first n pair on = ap (λ (p : Option Dir). turn_over p (port_at_node graph (board_under k) n pair.1)) (no_port n pair.0 on)
 
-  no_turn_second : (n : ℕ) (pair : SegId × SegId) → ((q : ChainStep) × In q c.steps × (q.seg.0 ≡ pair.1.0)) → turn_in graph k n pair ≡ 0
+  no_turn_second : (n : ℕ) (pair : SegId × SegId) → IsOnRun pair.1 → turn_in graph k n pair ≡ 0
   no_turn_second n pair on = ap (λ (p : Option Dir). turn_over (port_at_node graph (board_under k) n pair.0) p) (no_port n pair.1 on) ∙ turn_none (port_at_node graph (board_under k) n pair.0)
 
+  -- where all segments are on the run, nothing turned
+  no_turns : (n : ℕ) → ((pair : SegId × SegId) → In pair (pairs_at graph n) → IsOnRun pair.0) → turns_in graph k n ≡ 0
+  no_turns n on = same_sum (turn_in graph k n) (λ pair. 0) (pairs_at graph n) (λ pair i. no_turn_first n pair (on pair i)) ∙ zeros (pairs_at graph n)
+
   -- a node at which only this segment of the run ends
-  module _ (n : ℕ) (node : n < length graph.kinds) (s : SegId) (on : (q : ChainStep) × In q c.steps × (q.seg.0 ≡ s.0)) (only : (q : ChainStep) → In q c.steps → IsEndOf graph q.seg n → q.seg ≡ s) where
+  module _ (n : ℕ) (node : n < length graph.kinds) (s : SegId) (on : IsOnRun s) (only : (q : ChainStep) → In q c.steps → IsEndOf graph q.seg n → q.seg ≡ s) where
     is_off : (pair : SegId × SegId) (t : SegId) → In t (get_or graph.rounds n []) → (t.0 ≡ s.0 → ⊥) → IsOff c.steps t
     is_off pair t i differ q m same =
         let end_here : IsEndOf graph t n = ends_round graph fit n node t i in
@@ -268,8 +259,6 @@ module _ (graph : GraphParts) (fit : IsConsistent graph) (k : Sketch) (h : IsLeg
     turns_by_port : (d : Dir) → port_at_node graph (board_under new) n s ≡ Some d → turns_from graph new n s ≡ turns_by graph k n s d
     turns_by_port d port = same_sum (turn_if graph new n s) (turn_by graph k n s d) (pairs_at graph n) (λ pair i. turn_by_port d port pair i)
 
-  -- ---- nodes
-
   -- where no segment of the run ends, nothing turns that didn't
   still_turns : (n : ℕ) → n < length graph.kinds → ((q : ChainStep) → In q c.steps → IsEndOf graph q.seg n → ⊥) → turns_in graph new n ≡ turns_in graph k n
   still_turns n node off = same_sum (turn_in graph new n) (turn_in graph k n) (pairs_at graph n) (λ pair i. let joined = pair_joined graph fit n node pair i in same_turn n pair (off_run pair.0 joined.lesser) (off_run pair.1 joined.greater))
@@ -279,24 +268,8 @@ module _ (graph : GraphParts) (fit : IsConsistent graph) (k : Sketch) (h : IsLeg
 
   -- between two steps all turns are those from the first one, and there were none
   module _ (t u : ChainStep) (on : In t c.steps) (next : In u c.steps) (alone : MeetAlone graph t.seg t.to u.seg) (node : t.to.0 < length graph.kinds) where
-    one_of_two : (s : SegId) → In s (get_or graph.rounds t.to.0 []) → (s ≡ t.seg) ⊎ (s ≡ u.seg)
-    one_of_two s i = by_round alone
-      where
-        of_pair : (a b : SegId) → In s (a ∷ b ∷ []) → (s ≡ a) ⊎ (s ≡ b)
-        of_pair a b (inl e) = inl e
-        of_pair a b (inr (inl e)) = inr e
-        of_pair a b (inr (inr m)) = absurd m
-
-        turned : (s ≡ u.seg) ⊎ (s ≡ t.seg) → (s ≡ t.seg) ⊎ (s ≡ u.seg)
-        turned (inl e) = inr e
-        turned (inr e) = inl e
-
-        by_round : MeetAlone graph t.seg t.to u.seg → (s ≡ t.seg) ⊎ (s ≡ u.seg)
-        by_round (inl e) = of_pair t.seg u.seg (subst (λ (v : List SegId). In s v) e i)
-        by_round (inr e) = turned (of_pair u.seg t.seg (subst (λ (v : List SegId). In s v) e i))
-
     first_has : (pair : SegId × SegId) → In pair (pairs_at graph t.to.0) → has_segment t.seg pair ≡ true
-    first_has pair i = by_first (one_of_two pair.0 joined.lesser) (one_of_two pair.1 joined.greater)
+    first_has pair i = by_first (of_two graph t.seg t.to u.seg alone pair.0 joined.lesser) (of_two graph t.seg t.to u.seg alone pair.1 joined.greater)
       where
         joined : IsJoined graph t.to.0 pair
         joined = pair_joined graph fit t.to.0 node pair i
@@ -314,15 +287,11 @@ module _ (graph : GraphParts) (fit : IsConsistent graph) (k : Sketch) (h : IsLeg
         same_sum (turn_in graph new t.to.0) (turn_if graph new t.to.0 t.seg) (pairs_at graph t.to.0) (λ pair i. ap (λ b. cond b (turn_in graph new t.to.0 pair) 0) (sym (first_has pair i)))
 
     none_before : turns_in graph k t.to.0 ≡ 0
-    none_before = same_sum (turn_in graph k t.to.0) (λ pair. 0) (pairs_at graph t.to.0) (λ pair i. by_first pair (one_of_two pair.0 (pair_joined graph fit t.to.0 node pair i).lesser)) ∙ all_zero (pairs_at graph t.to.0)
+    none_before = no_turns t.to.0 (λ pair i. by_first pair.0 (of_two graph t.seg t.to u.seg alone pair.0 (pair_joined graph fit t.to.0 node pair i).lesser))
       where
-        by_first : (pair : SegId × SegId) → (pair.0 ≡ t.seg) ⊎ (pair.0 ≡ u.seg) → turn_in graph k t.to.0 pair ≡ 0
-        by_first pair (inl e) = no_turn_first t.to.0 pair (t, on, ap (λ (s : SegId). s.0) (sym e))
-        by_first pair (inr e) = no_turn_first t.to.0 pair (u, next, ap (λ (s : SegId). s.0) (sym e))
-
-        all_zero : (ps : List (SegId × SegId)) → sum_by (λ (pair : SegId × SegId). 0) ps ≡ 0
-        all_zero [] = refl
-        all_zero (p ∷ ps) = let rest = all_zero ps in let all = sum_by-cons (λ (pair : SegId × SegId). 0) p ps in omega (arith, rest, all)
+        by_first : (s : SegId) → (s ≡ t.seg) ⊎ (s ≡ u.seg) → IsOnRun s
+        by_first s (inl e) = (t, on, ap (λ (r : SegId). r.0) (sym e))
+        by_first s (inr e) = (u, next, ap (λ (r : SegId). r.0) (sym e))
 
   -- what a node weighs more
   abbrev more : ℕ → ℕ
@@ -332,7 +301,7 @@ module _ (graph : GraphParts) (fit : IsConsistent graph) (k : Sketch) (h : IsLeg
   to_below q i = let on = step_of graph c.from c.steps run.steps q i in end_below graph fit q.seg q.to.0 on.segment (leads_to graph on.from q on.leads)
 
   -- at an end of the run, where the segment of a step ends alone
-  at_end : (n : ℕ) → n < length graph.kinds → is_standing k n ≡ true → is_standing new n ≡ true → point_of_node new n ≡ point_of_node k n → (s : SegId) → ((q : ChainStep) × In q c.steps × (q.seg.0 ≡ s.0)) → ((q : ChainStep) → In q c.steps → IsEndOf graph q.seg n → q.seg ≡ s)
+  at_end : (n : ℕ) → n < length graph.kinds → is_standing k n ≡ true → is_standing new n ≡ true → point_of_node new n ≡ point_of_node k n → (s : SegId) → IsOnRun s → ((q : ChainStep) → In q c.steps → IsEndOf graph q.seg n → q.seg ≡ s)
       → node_weight_in scale graph first new n ≡ node_weight_in scale graph first k n + scale.overs * turns_from graph new n s
   at_end n node stood stands same s on only =
       let turns = ap (λ m. scale.overs * m) (more_turns n node s on only) in
@@ -399,17 +368,14 @@ module _ (graph : GraphParts) (fit : IsConsistent graph) (k : Sketch) (h : IsLeg
   abbrev nodes : List ℕ
   nodes = from ∷ end ∷ map (λ (m : NodeId). m.0) inner
 
+  -- no step leads to a node that is neither the end nor between steps
+  no_step : (n : ℕ) → (n ≡ end → ⊥) → (IsBetweenSteps c.steps n → ⊥) → (q : ChainStep) → In q c.steps → q.to.0 ≡ n → ⊥
+  no_step n other off q i e = elim (leads_where c.from c.steps q i) [ inl a ↦ other (sym e ∙ a) | inr b ↦ off (b.0, b.1, b.2 ∙ e) ]
+
   from_more : node_weight_in scale graph first new from ≡ node_weight_in scale graph first k from + scale.overs * turns_from graph new from (first_seg_of c.steps)
   from_more =
-      at_end from (stands_below graph k h from clear.from) clear.from (keeps_standing graph c.from c.steps pieces k from clear.from) (same_point graph c.from c.steps pieces k from off) (first_seg_of c.steps) (first_on c.steps run.some)
+      at_end from (stands_below graph k h from clear.from) clear.from (keeps_standing graph c.from c.steps pieces k from clear.from) (same_point graph c.from c.steps pieces k from (no_step from run.apart from_off)) (first_seg_of c.steps) (first_on c.steps run.some)
       (λ q i e. first_at graph c.from c.steps run.steps run.apart from_off q i e)
-    where
-      off : (q : ChainStep) → In q c.steps → q.to.0 ≡ from → ⊥
-      off q i e = by_place (leads_where c.from c.steps q i)
-        where
-          by_place : (q.to.0 ≡ end) ⊎ IsBetweenSteps c.steps q.to.0 → ⊥
-          by_place (inl a) = run.apart (sym e ∙ a)
-          by_place (inr b) = from_off (b.0, b.1, b.2 ∙ e)
 
   end_more : node_weight_in scale graph first new end ≡ node_weight_in scale graph first k end + scale.overs * turns_from graph new end (last_seg_of c)
   end_more =
@@ -436,18 +402,11 @@ module _ (graph : GraphParts) (fit : IsConsistent graph) (k : Sketch) (h : IsLeg
       omega (arith, none, before)
     where
       none_at : IsInner graph c.steps m → turns_in graph k m.0 ≡ 0
-      none_at at = same_sum (turn_in graph k m.0) (λ pair. 0) (pairs_at graph m.0) (λ pair j. by_first pair (only_two graph fit at.before.seg at.after.seg m pair.0 at.alone at.node (below pair j) (ends_round graph fit m.0 at.node pair.0 (pair_joined graph fit m.0 at.node pair j).lesser))) ∙ zeros (pairs_at graph m.0)
+      none_at at = no_turns m.0 (λ pair j. by_first pair.0 (of_two graph at.before.seg m at.after.seg at.alone pair.0 (pair_joined graph fit m.0 at.node pair j).lesser))
         where
-          below : (pair : SegId × SegId) → In pair (pairs_at graph m.0) → pair.0.0 < length graph.ends
-          below pair j = (pair_below graph fit m.0 at.node pair j).0
-
-          by_first : (pair : SegId × SegId) → (pair.0 ≡ at.before.seg) ⊎ (pair.0 ≡ at.after.seg) → turn_in graph k m.0 pair ≡ 0
-          by_first pair (inl e) = no_turn_first m.0 pair (at.before, at.on_before, ap (λ (s : SegId). s.0) (sym e))
-          by_first pair (inr e) = no_turn_first m.0 pair (at.after, at.on_after, ap (λ (s : SegId). s.0) (sym e))
-
-          zeros : (ps : List (SegId × SegId)) → sum_by (λ (pair : SegId × SegId). 0) ps ≡ 0
-          zeros [] = refl
-          zeros (p ∷ ps) = let rest = zeros ps in let all = sum_by-cons (λ (pair : SegId × SegId). 0) p ps in omega (arith, rest, all)
+          by_first : (s : SegId) → (s ≡ at.before.seg) ⊎ (s ≡ at.after.seg) → IsOnRun s
+          by_first s (inl e) = (at.before, at.on_before, ap (λ (r : SegId). r.0) (sym e))
+          by_first s (inr e) = (at.after, at.on_after, ap (λ (r : SegId). r.0) (sym e))
 
   no_less : (n : ℕ) → In n nodes → node_weight_in scale graph first k n ≤ node_weight_in scale graph first new n
   no_less n (inl e) = subst (λ j. node_weight_in scale graph first k j ≤ node_weight_in scale graph first new j) (sym e) (omega (arith, from_more))
@@ -464,12 +423,8 @@ module _ (graph : GraphParts) (fit : IsConsistent graph) (k : Sketch) (h : IsLeg
       untouched f (inr (inl e)) = true≢false (sym (one_from nodes n (inr (inl e))) ∙ f)
       untouched f (inr (inr b)) = true≢false (sym (one_from nodes n (inr (inr (in_map (λ (p : NodeId). p.0) inner b.0 n b.1 b.2)))) ∙ f)
 
-      no_step : is_one_of nodes n ≡ false → (q : ChainStep) → In q c.steps → q.to.0 ≡ n → ⊥
-      no_step f q i e = by_place (leads_where c.from c.steps q i)
-        where
-          by_place : (q.to.0 ≡ end) ⊎ IsBetweenSteps c.steps q.to.0 → ⊥
-          by_place (inl a) = untouched f (inr (inl (sym e ∙ a)))
-          by_place (inr b) = untouched f (inr (inr (b.0, b.1, b.2 ∙ e)))
+      no_end : is_one_of nodes n ≡ false → (q : ChainStep) → In q c.steps → q.to.0 ≡ n → ⊥
+      no_end f = no_step n (λ a. untouched f (inr (inl a))) (λ b. untouched f (inr (inr b)))
 
       by_test : (is_one_of nodes n ≡ true) ⊎ (is_one_of nodes n ≡ false) → node_weight_in scale graph first new n ≡ grown (node_weight_in scale graph first k) more nodes n
       by_test (inl e) =
@@ -479,8 +434,8 @@ module _ (graph : GraphParts) (fit : IsConsistent graph) (k : Sketch) (h : IsLeg
       by_test (inr f) =
           let turns = ap (λ m. scale.overs * m) (still_turns n node (λ q i e. untouched f (touches graph c.from c.steps run.steps q i n e))) in
           let apart : cond (is_standing new n) (apart_in scale first new n) 0 ≡ cond (is_standing k n) (apart_in scale first k n) 0 =
-          ap (λ b. cond b (apart_in scale first new n) 0) (keeps_lifted graph c.from c.steps pieces k n (no_step f))
-          ∙ ap (λ (p : GridPoint). cond (is_standing k n) (apart_weight_by scale n (first_point first n) p) 0) (same_point graph c.from c.steps pieces k n (no_step f)) in
+          ap (λ b. cond b (apart_in scale first new n) 0) (keeps_lifted graph c.from c.steps pieces k n (no_end f))
+          ∙ ap (λ (p : GridPoint). cond (is_standing k n) (apart_weight_by scale n (first_point first n) p) 0) (same_point graph c.from c.steps pieces k n (no_end f)) in
           let none : cond (is_one_of nodes n) (more n) 0 ≡ 0 = ap (λ b. cond b (more n) 0) f in
           omega (arith, turns, apart, none)
 

@@ -1,9 +1,6 @@
 -- Sums over the numbers from 0 on that grow at some of them.
 use Rattle.std.proofs.Common.{◌≡◌, refl, sym, ◌∙◌, ap, ap₂, ℕ, zero, suc, ◌+◌, ◌<◌, ◌≤◌, Bool, true, false, cond, eqb, ◌||◌, List, [], ◌∷◌, map, ◌⊎◌, inl, inr, arith}
-use Rattle.std.proofs.lemmas.Bool.{cases_eq, eq-eqb, ne_eqb}
-use Rattle.std.proofs.lemmas.List.Sums.{sum_by-cons}
-use Rattle.std.specs.List.{list_any, range_with_len, sum_by}
-use Rattle.octi_grid.proofs.Members.{In}
+use Rattle.drawing_search.proofs.Common.{cases_eq, eq-eqb, list_any, ne_eqb, range_with_len, sum_by, sum_by-cons, In}
 
 pub same_sum : {X : Type 0} (f g : X → ℕ) (xs : List X) → ((x : X) → In x xs → f x ≡ g x) → sum_by f xs ≡ sum_by g xs
 same_sum f g [] same = refl
@@ -66,8 +63,6 @@ at_one f x a lo (suc n) low high = by_first (λ order. at_one f x a (lo + 1) n o
         order : (lo ≡ x) ⊎ (lo ≡ x → ⊥) → lo + 1 ≤ x
         order (inl e) = absurd (differ e)
         order (inr f) = grind (arith, low, f)
-
--- ---- at several
 
 -- a number is one of these
 abbrev pub is_one_of : List ℕ → ℕ → Bool

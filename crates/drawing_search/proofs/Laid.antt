@@ -1,26 +1,12 @@
 -- A run is laid step by step along a walk that is cut.
 use Rattle.std.proofs.Common.{◌≡◌, refl, sym, ◌∙◌, ap, subst, ℕ, ◌+◌, ◌<◌, Bool, true, false, cond, nat_le, nat_lt, List, [], ◌∷◌, length, map, drop, get_or, set, Option, Some, None, inl, arith, length-drop}
-use Rattle.std.proofs.lemmas.Bool.{lt-ltb}
-use Rattle.std.proofs.lemmas.Bool.Decides.{nat_tests}
-use Rattle.std.proofs.lemmas.List.{drop_more, set-get_or}
-use Rattle.std.specs.List.{range_with_len}
-use Rattle.map_base.specs.declared.ids.NodeId.{NodeId}
-use Rattle.map_base.specs.declared.ids.SegId.{SegId}
-use Rattle.graph_core.specs.declared.parts.GraphParts.{GraphParts}
-use Rattle.graph_core.specs.Consistent.{IsConsistent}
-use Rattle.line_chains.specs.declared.chain.Chain.{Chain}
-use Rattle.line_chains.specs.declared.chain.ChainStep.{ChainStep}
-use Rattle.octi_grid.specs.declared.point.GridPoint.{GridPoint}
-use Rattle.octi_grid.specs.Walks.{cost_of, end_point, points_of, PlainWalk}
-use Rattle.segment_router.proofs.SettledLemmas.{nowhere}
-use Rattle.walk_search.specs.Routes.{if_within}
-use Rattle.run_laying.specs.Laying.{board_under, from_low, laid_along, run_walk, with_piece, with_pieces, Sketch}
-use Rattle.run_laying.specs.Pieces.{cut_place, cuts_at, even_steps, pieces_of}
-use Rattle.run_laying.specs.Sketches.{is_standing, point_of_node, stood, walk_in, with_walk_of}
-use Rattle.run_laying.proofs.LaidRuns.{laid_further, IsLaying}
-use Rattle.run_laying.proofs.RunFacts.{end_below, leads_to}
-use Rattle.drawing_search.specs.Changes.{StandsAfter}
-use Rattle.drawing_search.specs.Trying.{laid_within}
+use Rattle.drawing_search.proofs.Common.{board_under, cost_of, cut_place, cuts_at, drop_more, end_below, end_point}
+use Rattle.drawing_search.proofs.Common.{even_steps, from_low, if_within, is_standing, laid_along, laid_further}
+use Rattle.drawing_search.proofs.Common.{laid_within, leads_to, lt-ltb, nowhere, pieces_of, point_of_node, points_of}
+use Rattle.drawing_search.proofs.Common.{range_with_len, run_walk, set-get_or, stood, walk_in, with_piece, with_pieces}
+use Rattle.drawing_search.proofs.Common.{with_walk_of, Chain, ChainStep, GraphParts, GridPoint, IsConsistent, IsLaying}
+use Rattle.drawing_search.proofs.Common.{NodeId, PlainWalk, SegId, Sketch, StandsAfter}
+use Rattle.drawing_search.proofs.FieldFacts.{one_behind}
 
 -- ---- what was found
 
@@ -62,8 +48,6 @@ all_laid_along graph most c k new w e enough is =
     ∙ ap (λ t. cond t (Some (with_pieces graph c.from c.steps (pieces_of w (length c.steps)) k)) None) enough
     ∙ ap (λ (j : Sketch). Some j) (sym is)
 
--- ---- a step
-
 -- what a step wants, and what the node to which it leads is then
 pub record IsStepOf (graph : GraphParts) (is_inner : Bool) (t : ChainStep) (v : PlainWalk) (k : Sketch) : Type 0 where
   pub segment : t.seg.0 < length graph.ends
@@ -102,10 +86,12 @@ piece_stood graph n t w k mid new p given at is = is ∙ ap (λ (j : Sketch). st
 pub piece_kept : (graph : GraphParts) (n : NodeId) (t : ChainStep) (w : PlainWalk) (k mid : Sketch) → mid ≡ with_walk_of k t.seg (Some (from_low graph t.seg n w)) → is_standing k t.to.0 ≡ true → point_of_node k t.to.0 ≡ end_point w → mid ≡ with_piece graph n t w k
 piece_kept graph n t w k mid given stands at =
     given
-    ∙ ap (λ (ps : List GridPoint). (let j : Sketch = record { bounds = k.bounds; points = ps; stand = k.stand; walks = set k.walks t.seg.0 (Some (from_low graph t.seg n w)) } in j)) (sym (ap (set k.points t.to.0) (sym at) ∙ set-get_or k.points t.to.0 nowhere))
-    ∙ ap (λ (fs : List Bool). (let j : Sketch = record { bounds = k.bounds; points = set k.points t.to.0 (end_point w); stand = fs; walks = set k.walks t.seg.0 (Some (from_low graph t.seg n w)) } in j)) (sym (ap (set k.stand t.to.0) (sym stands) ∙ set-get_or k.stand t.to.0 false))
-
--- ---- step by step
+    ∙ (λ i. record {
+      bounds = k.bounds;
+      points = sym (ap (set k.points t.to.0) (sym at) ∙ set-get_or k.points t.to.0 nowhere) i;
+      stand = sym (ap (set k.stand t.to.0) (sym stands) ∙ set-get_or k.stand t.to.0 false) i;
+      walks = set k.walks t.seg.0 (Some (from_low graph t.seg n w));
+    })
 
 -- the run from a step on is still to be laid, if there is one
 pub record IsLayingFrom (graph : GraphParts) (n : NodeId) (ts : List ChainStep) (vs : List PlainWalk) (i : ℕ) (k : Sketch) (l : SegId) (e : ℕ) : Type 0 where
@@ -129,10 +115,7 @@ module _ (graph : GraphParts) (fit : IsConsistent graph) (n : NodeId) (ts : List
   here h = subst (λ (qs : List ChainStep). IsLaying graph n qs (v ∷ drop (i + 1) vs) k h.walk l e) first (subst (λ (bs : List PlainWalk). IsLaying graph n (drop i ts) bs k h.walk l e) first_piece h.laying)
 
   pub step_of_run : IsLayingFrom graph n ts vs i k l e → (b : Bool) → b ≡ nat_lt (i + 1) (length ts) → IsStepOf graph b (get_or ts i d) (get_or vs i x) k
-  step_of_run h b is = step_fits graph fit n t (drop (i + 1) ts) v (drop (i + 1) vs) k h.walk l e (here h) b (is ∙ last)
-    where
-      last : nat_lt (i + 1) (length ts) ≡ nat_lt 0 (length (drop (i + 1) ts))
-      last = grind (arith, nat_tests, length-drop (i + 1) ts)
+  step_of_run h b is = step_fits graph fit n t (drop (i + 1) ts) v (drop (i + 1) vs) k h.walk l e (here h) b (is ∙ one_behind ts i)
 
   pub run_further : IsLayingFrom graph n ts vs i k l e → i + 1 < length ts → IsLayingFrom graph (get_or ts i d).to ts vs (i + 1) (with_piece graph n (get_or ts i d) (get_or vs i x) k) l e
   run_further h more =

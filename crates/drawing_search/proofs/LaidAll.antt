@@ -1,52 +1,186 @@
 -- Runs that are laid one after another add no less than their bounds say, also those that were made beside fewer walks.
-use Rattle.std.proofs.Common.{◌≡◌, refl, sym, ◌∙◌, ap, ap₂, subst, ℕ, ◌+◌, ◌-◌, ◌/◌, ◌<◌, ◌≤◌, Bool, true, false, cond, eqb, min, List, [], ◌∷◌, length, fold, map, get_or, Option, Some, None, ◌⊎◌, inl, inr, arith, length-set, get_or-set_same}
-use Rattle.std.proofs.Math.Nat.{mul-le-mul_left}
-use Rattle.std.proofs.lemmas.Bool.{cases_eq, eq-eqb, true≢false}
-use Rattle.std.proofs.lemmas.List.Sums.{sum_by-cons}
-use Rattle.std.specs.Int.{bit_at}
-use Rattle.std.specs.List.{flat_map, sum_by}
-use Rattle.std.specs.Prelude.{slice_index}
-use Rattle.map_base.specs.declared.ids.NodeId.{NodeId}
-use Rattle.map_base.specs.declared.ids.SegId.{SegId}
-use Rattle.graph_core.specs.declared.parts.GraphParts.{GraphParts}
-use Rattle.graph_core.specs.Consistent.{IsConsistent}
-use Rattle.line_chains.specs.declared.chain.Chain.{Chain}
-use Rattle.line_chains.specs.declared.chain.ChainStep.{ChainStep}
-use Rattle.line_chains.specs.Chains.{end_after, end_of, ends_of, last_seg}
-use Rattle.octi_grid.specs.declared.dir.Dir.{Dir}
-use Rattle.octi_grid.specs.declared.point.GridPoint.{GridPoint}
-use Rattle.octi_grid.specs.Ways.{after, number_of}
-use Rattle.octi_grid.specs.Walks.{cost_of, end_point, PlainWalk}
-use Rattle.octi_grid.proofs.Fronts.{IsSameOrNone}
-use Rattle.octi_grid.proofs.Members.{from_flat_map, In}
+use Rattle.std.proofs.Common.{◌≡◌, refl, sym, ◌∙◌, ap, subst, ℕ, ◌+◌, ◌-◌, ◌/◌, ◌<◌, ◌≤◌, Bool, true, false, cond, eqb, min, List, [], ◌∷◌, length, fold, map, get_or, Option, Some, None, ◌⊎◌, inl, inr, arith, length-set, get_or-set_same, ◌%◌, nat_le}
+use Rattle.line_chains.specs.Chains.{ends_of}
 use Rattle.walk_search.specs.Reaching.{reach_of}
-use Rattle.walk_search.specs.Routes.{allows, directions}
-use Rattle.segment_router.specs.Ports.{is_allowed, stops_from, with_port, with_stop}
-use Rattle.segment_router.specs.Routes.{end_at, port_at_node, port_by}
 use Rattle.segment_router.proofs.ClockLemmas.{bit_told}
 use Rattle.segment_router.proofs.RouteLemmas.{in_filter, route_parts, IsRoute}
-use Rattle.segment_router.proofs.SettledLemmas.{nowhere}
-use Rattle.drawing_weights.specs.Scales.{turn_over, Scale}
-use Rattle.run_laying.specs.Attempts.{inner_nodes}
-use Rattle.run_laying.specs.Laying.{all_laid, board_of, board_under, first_seg_of, if_laid, laid, last_seg_of, with_piece, with_pieces, Sketch}
-use Rattle.run_laying.specs.Runs.{AreBeside, AreSteps, IsRun}
-use Rattle.run_laying.specs.Sketches.{is_standing, point_of_node, walk_in, IsEndOf, IsLegalSketch}
-use Rattle.run_laying.proofs.Attempted.{beside_off, laid_on, still_clear, IsClearFor, IsLaidOn}
-use Rattle.run_laying.proofs.Cuts.{split_end}
-use Rattle.run_laying.proofs.LaidRuns.{same_walk, IsCut}
-use Rattle.run_laying.proofs.RunFacts.{end_below, in_round, leads_from, leads_to, IsOff}
-use Rattle.run_laying.proofs.Shown.{stands_below}
-use Rattle.drawing_search.specs.declared.least.LeastTurns.{LeastTurns}
-use Rattle.drawing_search.specs.Bounds.{gains_at_least, HaveBounds, IsBoundOf}
-use Rattle.drawing_search.specs.Gains.{pairs_at, run_gain, sketch_weight, turn_by, turns_by}
-use Rattle.drawing_search.specs.Least.{allowed_dirs, least_beside, least_by, never, ports_for, straight_way}
+use Rattle.run_laying.proofs.RunFacts.{IsOff}
+use Rattle.drawing_search.proofs.Common.{after, allowed_dirs, allows, and_from, and_parts, bit_at, board_of}
+use Rattle.drawing_search.proofs.Common.{board_under, cases_eq, cost_of, directions, distance_to, end_after, end_at}
+use Rattle.drawing_search.proofs.Common.{end_below, end_of, end_point, eq-eqb, eqb-true, first_leads, first_seg_of}
+use Rattle.drawing_search.proofs.Common.{flat_map, from_flat_map, gains_at_least, gaps_of, gaps_to, in_round}
+use Rattle.drawing_search.proofs.Common.{inner_nodes, is_allowed, is_standing, laid, last_seg, last_seg_of, le-leb}
+use Rattle.drawing_search.proofs.Common.{leads_from, leads_to, least_beside, least_by, leb-true, list_all}
+use Rattle.drawing_search.proofs.Common.{mul-le-mul_left, never, nowhere, number_of, number_small, pairs_at}
+use Rattle.drawing_search.proofs.Common.{point_of_node, port_at_node, port_by, ports_for, run_gain, same_walk}
+use Rattle.drawing_search.proofs.Common.{sketch_weight, slice_index, split_end, stands_below, stops_from, straight_way}
+use Rattle.drawing_search.proofs.Common.{sum_by, sum_by-cons, true≢false, turn_by, turn_over, turned_over, turns_by}
+use Rattle.drawing_search.proofs.Common.{walk_in, with_piece, with_pieces, with_port, with_stop, AreSteps, Chain}
+use Rattle.drawing_search.proofs.Common.{ChainStep, Dir, GraphParts, GridPoint, HaveBounds, In, IsBoundOf, IsClearFor}
+use Rattle.drawing_search.proofs.Common.{IsConsistent, IsCut, IsEndOf, IsLaidOn, IsLegalSketch, IsRun, IsSameOrNone}
+use Rattle.drawing_search.proofs.Common.{LeastTurns, NodeId, PlainWalk, Scale, SegId, Sketch, Stop}
 use Rattle.drawing_search.proofs.Gained.{leads_where, run_gained, same_point}
-use Rattle.drawing_search.proofs.PricedRuns.{first_leads}
 use Rattle.drawing_search.proofs.RunBounds.{fold_least, least_allowed, run_no_less, run_within}
-use Rattle.drawing_search.proofs.Spaced.{allowed_fewer}
-use Rattle.drawing_search.proofs.Takable.{on_or_off}
+use Rattle.drawing_search.proofs.Takable.{on_or_off, from_map}
 
--- ---- bounds beside more walks
+-- there is room in all gaps
+abbrev has_room : List (ℕ × ℕ) → Bool
+has_room gaps = list_all (λ (g : ℕ × ℕ). nat_le g.1 g.0) gaps
+
+-- from one port over another to a third, not more than once round
+over_numbers : (a b c : ℕ) → a < 8 → b < 8 → c < 8 → (b + 7 - a) % 8 + 1 + ((c + 7 - b) % 8 + 1) ≤ 8 → (c + 7 - a) % 8 + 1 ≡ (b + 7 - a) % 8 + 1 + ((c + 7 - b) % 8 + 1)
+over_numbers a b c h k l less = omega arith
+
+over : (f g e : Dir) → distance_to f g + distance_to g e ≤ 8 → distance_to f e ≡ distance_to f g + distance_to g e
+over f g e less = over_numbers (number_of f) (number_of g) (number_of e) (omega (arith, number_small f)) (omega (arith, number_small g)) (omega (arith, number_small e)) less
+
+-- the first of gaps may be one that is made of two
+joined : (g : ℕ × ℕ) (rest : List (ℕ × ℕ)) (a b m n : ℕ) → g.0 ≡ a + b → g.1 ≡ m + n → m ≤ a → has_room ((b, n) ∷ rest) ≡ true → (has_room (g ∷ rest) ≡ true) × (turned_over (g ∷ rest) ≡ a + turned_over ((b, n) ∷ rest))
+joined g rest a b m n far wide first room =
+    let parts = and_parts (nat_le n b) (has_room rest) room in
+    let second : n ≤ b = leb-true n b parts.0 in
+    (and_from (nat_le g.1 g.0) (has_room rest) (le-leb g.1 g.0 (omega (arith, far, wide, first, second))) parts.1, omega (arith, far))
+
+-- places of stops lie from one number on, and not past another
+abbrev AreFrom : ℕ → ℕ → List Stop → Type 0
+AreFrom low high [] = Unit {0}
+AreFrom low high (s ∷ ss) = (low ≤ s.0) × (s.0 ≤ high) × AreFrom (s.0 + 1) high ss
+
+-- a stop is left out between two others
+left_out : (count : ℕ) (first s t : Stop) (rest : List Stop) → s.0 ≤ t.0 → t.0 ≤ count → AreFrom (t.0 + 1) count rest → nat_le (t.0 - s.0) (distance_to s.1 t.1) ≡ true → distance_to s.1 t.1 + turned_over (gaps_to count first t rest) ≤ 8
+    → has_room (gaps_to count first t rest) ≡ true
+    → (has_room (gaps_to count first s rest) ≡ true) × (turned_over (gaps_to count first s rest) ≡ distance_to s.1 t.1 + turned_over (gaps_to count first t rest))
+left_out count first s t [] order within places near less room =
+    joined (distance_to s.1 first.1, first.0 + count - s.0) [] (distance_to s.1 t.1) (distance_to t.1 first.1) (t.0 - s.0) (first.0 + count - t.0) (over s.1 t.1 first.1 (omega (arith, less))) (omega (arith, order, within))
+    (leb-true (t.0 - s.0) (distance_to s.1 t.1) near) room
+left_out count first s t (u ∷ us) order within places near less room =
+    joined (distance_to s.1 u.1, u.0 - s.0) (gaps_to count first u us) (distance_to s.1 t.1) (distance_to t.1 u.1) (t.0 - s.0) (u.0 - t.0) (over s.1 t.1 u.1 (omega (arith, less))) (omega (arith, order, places.0))
+    (leb-true (t.0 - s.0) (distance_to s.1 t.1) near) room
+
+-- the first stop is left out
+begun_later : (count : ℕ) (first t x : Stop) (rest : List Stop) → first.0 ≤ t.0 → x.0 ≤ count → AreFrom (x.0 + 1) count rest → nat_le (t.0 - first.0) (distance_to first.1 t.1) ≡ true → distance_to first.1 t.1 + turned_over (gaps_to count first x rest) ≤ 8
+    → has_room (gaps_to count first x rest) ≡ true
+    → (has_room (gaps_to count t x rest) ≡ true) × (turned_over (gaps_to count t x rest) ≡ distance_to first.1 t.1 + turned_over (gaps_to count first x rest))
+begun_later count first t x [] order within places near less room =
+    let parts = and_parts (nat_le (first.0 + count - x.0) (distance_to x.1 first.1)) true room in
+    let enough : first.0 + count - x.0 ≤ distance_to x.1 first.1 = leb-true (first.0 + count - x.0) (distance_to x.1 first.1) parts.0 in
+    let other : t.0 - first.0 ≤ distance_to first.1 t.1 = leb-true (t.0 - first.0) (distance_to first.1 t.1) near in
+    let far = over x.1 first.1 t.1 (omega (arith, less)) in
+    (and_from (nat_le (t.0 + count - x.0) (distance_to x.1 t.1)) true (le-leb (t.0 + count - x.0) (distance_to x.1 t.1) (omega (arith, far, enough, other, order, within))) refl, omega (arith, far))
+begun_later count first t x (u ∷ us) order within places near less room =
+    let parts = and_parts (nat_le (u.0 - x.0) (distance_to x.1 u.1)) (has_room (gaps_to count first u us)) room in
+    let rest = begun_later count first t u us order places.1 places.2 near (omega (arith, less)) parts.1 in
+    (and_from (nat_le (u.0 - x.0) (distance_to x.1 u.1)) (has_room (gaps_to count t u us)) parts.0 rest.0, omega (arith, rest.1))
+
+-- ---- fewer ports
+
+stops_places : (f : SegId → Option Dir) (round : List SegId) (i high : ℕ) → i + length round ≤ high → AreFrom i high (stops_from i f round)
+stops_places f [] i high h = tt
+stops_places f (x ∷ xs) i high h = by_port (stops_places f xs (i + 1) high (omega (arith, h))) (f x)
+  where
+    lower : (low next high : ℕ) (ss : List Stop) → low ≤ next → AreFrom next high ss → AreFrom low high ss
+    lower low next high [] order places = tt
+    lower low next high (s ∷ ss) order places = (omega (arith, order, places.0), places.1, places.2)
+
+    by_port : AreFrom (i + 1) high (stops_from (i + 1) f xs) → (o : Option Dir) → AreFrom i high (with_stop i o (stops_from (i + 1) f xs))
+    by_port rest None = lower i (i + 1) high (stops_from (i + 1) f xs) (omega arith) rest
+    by_port rest (Some d) = (omega arith, omega (arith, h), rest)
+
+module _ (f h : SegId → Option Dir) (same : (s : SegId) → IsSameOrNone (f s) (h s)) (count : ℕ) where
+  -- behind a stop that is there
+  fewer_behind : (round : List SegId) (i : ℕ) (first s : Stop) → s.0 < i → i + length round ≤ count → turned_over (gaps_to count first s (stops_from i h round)) ≤ 8 → has_room (gaps_to count first s (stops_from i h round)) ≡ true
+      → (has_room (gaps_to count first s (stops_from i f round)) ≡ true) × (turned_over (gaps_to count first s (stops_from i f round)) ≡ turned_over (gaps_to count first s (stops_from i h round)))
+  fewer_behind [] i first s before within less room = (room, refl)
+  fewer_behind (x ∷ xs) i first s before within less room = by_ports (λ t less_t room_t earlier. fewer_behind xs (i + 1) first t earlier (omega (arith, within)) less_t room_t) (f x) (h x) (same x) less room
+    where
+      behind_f : List Stop
+      behind_f = stops_from (i + 1) f xs
+
+      behind_h : List Stop
+      behind_h = stops_from (i + 1) h xs
+
+      Rest : Type 0
+      Rest = (t : Stop) → turned_over (gaps_to count first t behind_h) ≤ 8 → has_room (gaps_to count first t behind_h) ≡ true → t.0 < i + 1
+          → (has_room (gaps_to count first t behind_f) ≡ true) × (turned_over (gaps_to count first t behind_f) ≡ turned_over (gaps_to count first t behind_h))
+
+      by_ports : Rest → (o p : Option Dir) → IsSameOrNone o p → turned_over (gaps_to count first s (with_stop i p behind_h)) ≤ 8 → has_room (gaps_to count first s (with_stop i p behind_h)) ≡ true
+          → (has_room (gaps_to count first s (with_stop i o behind_f)) ≡ true) × (turned_over (gaps_to count first s (with_stop i o behind_f)) ≡ turned_over (gaps_to count first s (with_stop i p behind_h)))
+      by_ports behind None None e less room = behind s less room (omega (arith, before))
+      by_ports behind (Some d) None (inl e) less room = cc
+      by_ports behind (Some d) None (inr e) less room = cc
+      by_ports behind None (Some g) e less room =
+          let parts = and_parts (nat_le (i - s.0) (distance_to s.1 g)) (has_room (gaps_to count first (i, g) behind_h)) room in
+          let rest = behind (i, g) (omega (arith, less)) parts.1 (omega arith) in
+          let out = left_out count first s (i, g) behind_f (omega (arith, before)) (omega (arith, within)) (stops_places f xs (i + 1) count (omega (arith, within))) parts.0 (omega (arith, less, rest.1)) rest.0 in
+          (out.0, omega (arith, out.1, rest.1))
+      by_ports behind (Some d) (Some g) (inl e) less room = cc
+      by_ports behind (Some d) (Some g) (inr e) less room =
+          let one : d ≡ g = cc in
+          let parts = and_parts (nat_le (i - s.0) (distance_to s.1 g)) (has_room (gaps_to count first (i, g) behind_h)) room in
+          let rest = behind (i, g) (omega (arith, less)) parts.1 (omega arith) in
+          subst (λ (a : Dir). (has_room (gaps_to count first s ((i, a) ∷ behind_f)) ≡ true) × (turned_over (gaps_to count first s ((i, a) ∷ behind_f)) ≡ turned_over (gaps_to count first s ((i, g) ∷ behind_h)))) (sym one)
+          (and_from (nat_le (i - s.0) (distance_to s.1 g)) (has_room (gaps_to count first (i, g) behind_f)) parts.0 rest.0, omega (arith, rest.1))
+
+  -- there is a stop where there is one of fewer
+  no_fewer : (round : List SegId) (i : ℕ) → 0 < length (stops_from i f round) → 0 < length (stops_from i h round)
+  no_fewer [] i some = some
+  no_fewer (x ∷ xs) i some = by_ports (λ more. no_fewer xs (i + 1) more) (f x) (h x) (same x) some
+    where
+      by_ports : (0 < length (stops_from (i + 1) f xs) → 0 < length (stops_from (i + 1) h xs)) → (o p : Option Dir) → IsSameOrNone o p → 0 < length (with_stop i o (stops_from (i + 1) f xs)) → 0 < length (with_stop i p (stops_from (i + 1) h xs))
+      by_ports rest None None e some = rest some
+      by_ports rest None (Some g) e some = omega arith
+      by_ports rest (Some d) None (inl e) some = cc
+      by_ports rest (Some d) None (inr e) some = cc
+      by_ports rest (Some d) (Some g) e some = omega arith
+
+  -- all round
+  fewer : (round : List SegId) (i : ℕ) → i + length round ≤ count → 0 < length (stops_from i f round) → turned_over (gaps_of count (stops_from i h round)) ≡ 8 → has_room (gaps_of count (stops_from i h round)) ≡ true
+      → (has_room (gaps_of count (stops_from i f round)) ≡ true) × (turned_over (gaps_of count (stops_from i f round)) ≡ 8)
+  fewer [] i within some round_is room = absurd (omega (arith, some))
+  fewer (x ∷ xs) i within some round_is room = by_ports (λ more is_round has. fewer xs (i + 1) (omega (arith, within)) more is_round has) (f x) (h x) (same x) some round_is room
+    where
+      -- the first one is left out
+      without_first : (g : Dir) (ss : List Stop) → AreFrom (i + 1) count ss → turned_over (gaps_of count ((i, g) ∷ ss)) ≡ 8 → has_room (gaps_of count ((i, g) ∷ ss)) ≡ true → 0 < length ss → (has_room (gaps_of count ss) ≡ true) × (turned_over (gaps_of count ss) ≡ 8)
+      without_first g [] places is room some = absurd (omega (arith, some))
+      without_first g (t ∷ ts) places is room some =
+          let parts = and_parts (nat_le (t.0 - i) (distance_to g t.1)) (has_room (gaps_to count (i, g) t ts)) room in
+          let later = begun_later count (i, g) t t ts (omega (arith, places.0)) places.1 places.2 parts.0 (omega (arith, is)) parts.1 in
+          (later.0, omega (arith, later.1, is))
+
+      Rest : Type 0
+      Rest = 0 < length (stops_from (i + 1) f xs) → turned_over (gaps_of count (stops_from (i + 1) h xs)) ≡ 8 → has_room (gaps_of count (stops_from (i + 1) h xs)) ≡ true
+          → (has_room (gaps_of count (stops_from (i + 1) f xs)) ≡ true) × (turned_over (gaps_of count (stops_from (i + 1) f xs)) ≡ 8)
+
+      by_ports : Rest → (o p : Option Dir) → IsSameOrNone o p → 0 < length (with_stop i o (stops_from (i + 1) f xs)) → turned_over (gaps_of count (with_stop i p (stops_from (i + 1) h xs))) ≡ 8 → has_room (gaps_of count (with_stop i p (stops_from (i + 1) h xs))) ≡ true
+          → (has_room (gaps_of count (with_stop i o (stops_from (i + 1) f xs))) ≡ true) × (turned_over (gaps_of count (with_stop i o (stops_from (i + 1) f xs))) ≡ 8)
+      by_ports rest None None e some is room = rest some is room
+      by_ports rest (Some d) None (inl e) some is room = cc
+      by_ports rest (Some d) None (inr e) some is room = cc
+      by_ports rest None (Some g) e some is room =
+          let later = without_first g (stops_from (i + 1) h xs) (stops_places h xs (i + 1) count (omega (arith, within))) is room (no_fewer xs (i + 1) some) in
+          rest some later.1 later.0
+      by_ports rest (Some d) (Some g) (inl e) some is room = cc
+      by_ports rest (Some d) (Some g) (inr e) some is room =
+          let one : d ≡ g = cc in
+          let behind = fewer_behind xs (i + 1) (i, g) (i, g) (omega arith) (omega (arith, within)) (omega (arith, is)) room in
+          subst (λ (a : Dir). (has_room (gaps_of count ((i, a) ∷ stops_from (i + 1) f xs)) ≡ true) × (turned_over (gaps_of count ((i, a) ∷ stops_from (i + 1) f xs)) ≡ 8)) (sym one) (behind.0, behind.1 ∙ is)
+
+-- a port that is allowed beside some others is so beside fewer of them
+pub allowed_fewer : (f h : SegId → Option Dir) (round : List SegId) (s : SegId) (d : Dir) → ((t : SegId) → IsSameOrNone (f t) (h t)) → 0 < length (stops_from 0 (with_port s d f) round) → is_allowed round h s d ≡ true → is_allowed round f s d ≡ true
+allowed_fewer f h round s d same some e =
+    let parts = and_parts (eqb (turned_over (gaps_of (length round) (stops_from 0 (with_port s d h) round))) 8) (has_room (gaps_of (length round) (stops_from 0 (with_port s d h) round))) e in
+    let less = fewer (with_port s d f) (with_port s d h) ports (length round) round 0 (omega arith) some (eqb-true (turned_over (gaps_of (length round) (stops_from 0 (with_port s d h) round))) 8 parts.0) parts.1 in
+    and_from (eqb (turned_over (gaps_of (length round) (stops_from 0 (with_port s d f) round))) 8) (has_room (gaps_of (length round) (stops_from 0 (with_port s d f) round))) (eq-eqb (turned_over (gaps_of (length round) (stops_from 0 (with_port s d f) round))) 8 less.1) less.0
+  where
+    ports : (t : SegId) → IsSameOrNone (with_port s d f t) (with_port s d h t)
+    ports t = by_test (eqb s.0 t.0)
+      where
+        by_test : (b : Bool) → IsSameOrNone (cond b (Some d) (f t)) (cond b (Some d) (h t))
+        by_test true = inr refl
+        by_test false = same t
+
+-- ---- runs that are laid one after another add no less than their bounds say, also those that were made beside
+-- fewer walks
 
 -- a drawing has the walks of another, and more of them
 abbrev pub HasMore : Sketch → Sketch → Type 0
@@ -102,11 +236,6 @@ module _ (graph : GraphParts) (k j : Sketch) (more : HasMore k j) where
   least_more low [] a h each = h
   least_more low (x ∷ xs) a h each = least_more (min low x) xs a (omega (arith, h, each x (inl refl))) (λ y i. each y (inr i))
 
-  from_mapped : {X : Type 0} (f : X → ℕ) (xs : List X) (n : ℕ) → In n (map f xs) → (x : X) × In x xs × (n ≡ f x)
-  from_mapped f [] n i = absurd i
-  from_mapped f (x ∷ xs) n (inl e) = (x, inl refl, e)
-  from_mapped f (x ∷ xs) n (inr i) = let rest = from_mapped f xs n i in (rest.0, inr rest.1, rest.2)
-
   pub bound_still : IsConsistent graph → (scale : Scale) (c : Chain) (way : ℕ) → In (first_seg_of c.steps) (get_or graph.rounds c.from.0 []) → In (last_seg_of c) (get_or graph.rounds (end_of c).0 []) → least_beside scale graph k c way ≤ least_beside scale graph j c way
   bound_still fit scale c way from_on to_on =
       least_more never (flat_map (λ d. map (least_by scale graph j c way d) (allowed_dirs graph j (end_of c).0 (last_seg_of c))) (allowed_dirs graph j c.from.0 (first_seg_of c.steps))) (least_beside scale graph k c way)
@@ -119,12 +248,10 @@ module _ (graph : GraphParts) (k j : Sketch) (more : HasMore k j) where
       each : (x : ℕ) → In x (flat_map (λ d. map (least_by scale graph j c way d) (allowed_dirs graph j (end_of c).0 (last_seg_of c))) (allowed_dirs graph j c.from.0 (first_seg_of c.steps))) → least_beside scale graph k c way ≤ x
       each x i =
           let found = from_flat_map (λ d. map (least_by scale graph j c way d) (allowed_dirs graph j (end_of c).0 (last_seg_of c))) (allowed_dirs graph j c.from.0 (first_seg_of c.steps)) x i in
-          let other = from_mapped (least_by scale graph j c way found.0) (allowed_dirs graph j (end_of c).0 (last_seg_of c)) x found.2 in
+          let other = from_map (least_by scale graph j c way found.0) (allowed_dirs graph j (end_of c).0 (last_seg_of c)) x found.2 in
           let leaves = in_filter (λ d. eqb (bit_at (ports_for graph j c.from.0 (first_seg_of c.steps)) (number_of d)) 1) directions found.0 found.1 in
           let arrives = in_filter (λ d. eqb (bit_at (ports_for graph j (end_of c).0 (last_seg_of c)) (number_of d)) 1) directions other.0 other.1 in
           subst (λ n. least_beside scale graph k c way ≤ n) (sym other.2) (of_ports found.0 other.0 leaves.0 arrives.0)
-
--- ---- one run
 
 -- the end of a run stays where it was
 end_there : (graph : GraphParts) (n : NodeId) (ts : List ChainStep) (vs : List PlainWalk) (k : Sketch) (w : PlainWalk) → length vs ≡ length ts → IsCut w vs → (end_after n ts).0 < length k.points → point_of_node (with_pieces graph n ts vs k) (end_after n ts).0 ≡ end_point w
@@ -238,8 +365,7 @@ module _ (graph : GraphParts) (fit : IsConsistent graph) (scale : Scale) (first 
   same_gains f g (c ∷ cs) [] same = refl
   same_gains f g (c ∷ cs) (l ∷ ls) same =
       let here = same c (inl refl) in
-      ap₂ (λ (a b : GridPoint). reach_of a b + slice_index l.by (straight_way a b) + gains_at_least f cs ls) here.0 here.1
-      ∙ ap (λ n. reach_of (g c.from) (g (end_of c)) + slice_index l.by (straight_way (g c.from) (g (end_of c))) + n) (same_gains f g cs ls (λ d i. same d (inr i)))
+      λ i. reach_of (here.0 i) (here.1 i) + slice_index l.by (straight_way (here.0 i) (here.1 i)) + same_gains f g cs ls (λ d j. same d (inr j)) i
 
   -- what one run leaves for the others
   pub more_walks : (c : Chain) (k mid : Sketch) → IsClearFor k c → IsLaidOn graph c k mid → HasMore k mid
@@ -253,35 +379,3 @@ module _ (graph : GraphParts) (fit : IsConsistent graph) (scale : Scale) (first 
     where
       there : point_of_node (with_pieces graph c.from c.steps on.pieces k) (end_of c).0 ≡ point_of_node k (end_of c).0
       there = end_there graph c.from c.steps on.pieces k on.walk on.each on.cut (omega (arith, stands_below graph k h (end_of c).0 clear.end, h.points_each)) ∙ on.free.end
-
-  -- all of them add no less than their bounds together
-  pub rest_no_less : (cs : List Chain) (ls : List LeastTurns) (k fin : Sketch) → IsLegalSketch graph k → ((c : Chain) → In c cs → IsRun graph c) → AreBeside cs → ((c : Chain) → In c cs → IsClearFor k c) → HaveBounds scale graph k cs ls → all_laid graph cs k ≡ Some fin
-      → sketch_weight scale graph first k + gains_at_least (λ (n : NodeId). point_of_node k n.0) cs ls ≤ sketch_weight scale graph first fin
-  rest_no_less [] ls k fin h runs beside clear have e = let same : k ≡ fin = cc in omega (arith, ap (sketch_weight scale graph first) same)
-  rest_no_less (c ∷ cs) [] k fin h runs beside clear have e = absurd have
-  rest_no_less (c ∷ cs) (l ∷ ls) k fin h runs beside clear have e =
-      by_laid (λ mid legal ready bounds found. rest_no_less cs ls mid fin legal (λ d i. runs d (inr i)) beside.1 ready bounds found) (laid graph c k) refl e
-    where
-      here : IsClearFor k c
-      here = clear c (inl refl)
-
-      run : IsRun graph c
-      run = runs c (inl refl)
-
-      Rest : Type 0
-      Rest = (mid : Sketch) → IsLegalSketch graph mid → ((d : Chain) → In d cs → IsClearFor mid d) → HaveBounds scale graph mid cs ls → all_laid graph cs mid ≡ Some fin
-          → sketch_weight scale graph first mid + gains_at_least (λ (n : NodeId). point_of_node mid n.0) cs ls ≤ sketch_weight scale graph first fin
-
-      of_laid : Rest → (mid : Sketch) → IsLaidOn graph c k mid → all_laid graph cs mid ≡ Some fin → sketch_weight scale graph first k + gains_at_least (λ (n : NodeId). point_of_node k n.0) (c ∷ cs) (l ∷ ls) ≤ sketch_weight scale graph first fin
-      of_laid rest mid on found =
-          let g = gained c k mid l h run here have.0 on in
-          let more = more_walks c k mid here on in
-          let later = rest mid on.legal
-          (λ d i. subst (λ (j : Sketch). IsClearFor j d) on.is (still_clear graph fit c d on.pieces k run (runs d (inr i)) (λ q p on_c on_d. beside_off c cs beside d i q p on_c on_d) (clear d (inr i))))
-          (bounds_still k mid more cs ls (λ d i. runs d (inr i)) have.1) found in
-          let same = gains_stay c k mid h here on cs ls (λ d i. clear d (inr i)) in
-          omega (arith, g.weight, g.no_less, later, same)
-
-      by_laid : Rest → (o : Option Sketch) → laid graph c k ≡ o → if_laid (all_laid graph cs) o ≡ Some fin → sketch_weight scale graph first k + gains_at_least (λ (n : NodeId). point_of_node k n.0) (c ∷ cs) (l ∷ ls) ≤ sketch_weight scale graph first fin
-      by_laid rest None is found = cc
-      by_laid rest (Some mid) is found = of_laid rest mid (laid_on graph fit c k mid h run here is) found

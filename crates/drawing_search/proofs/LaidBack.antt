@@ -1,32 +1,20 @@
 -- Runs of an attempt that were laid so far, and what is left where they are taken away again.
-use Rattle.std.proofs.Common.{◌≡◌, refl, sym, ◌∙◌, ap, subst, ℕ, Bool, true, false, List, [], ◌∷◌, ◌++◌, length, fold, get_or, Option, Some, None, ◌⊎◌, inl, inr, arith, length-set}
-use Rattle.std.proofs.lemmas.Bool.{cases_Bool, true≢false}
-use Rattle.map_base.specs.declared.ids.NodeId.{NodeId}
-use Rattle.map_base.specs.declared.ids.SegId.{SegId}
-use Rattle.graph_core.specs.declared.parts.GraphParts.{GraphParts}
-use Rattle.graph_core.specs.Consistent.{IsConsistent}
-use Rattle.line_chains.specs.declared.chain.Chain.{Chain}
-use Rattle.line_chains.specs.declared.chain.ChainStep.{ChainStep}
-use Rattle.line_chains.specs.Chains.{end_of}
-use Rattle.octi_grid.specs.Walks.{end_point, PlainWalk}
-use Rattle.octi_grid.specs.declared.point.GridPoint.{GridPoint}
-use Rattle.octi_grid.proofs.Members.{in_append, in_left, in_right, In}
-use Rattle.segment_router.proofs.SettledLemmas.{nowhere}
-use Rattle.run_laying.specs.Attempts.{inner_nodes, is_inner, is_on_runs}
-use Rattle.run_laying.specs.Laying.{from_low, with_piece, with_pieces, Sketch}
-use Rattle.run_laying.specs.Runs.{AreBeside, IsRun}
-use Rattle.run_laying.specs.Sketches.{is_standing, point_of_node, walk_in, IsLegalSketch}
-use Rattle.run_laying.proofs.Attempted.{IsClearFor, IsLaidOn}
-use Rattle.run_laying.proofs.LaidRuns.{keeps_lifted, keeps_standing, same_bounds, same_walk, to_stands}
-use Rattle.run_laying.proofs.Kept.{inner_step}
-use Rattle.run_laying.proofs.RunFacts.{inner_of}
-use Rattle.drawing_search.specs.Alike.{AreAlike}
-use Rattle.drawing_search.specs.Changes.{without_run, AreTakable}
+use Rattle.std.proofs.Common.{◌≡◌, refl, sym, ◌∙◌, ap, subst, ℕ, Bool, true, false, List, [], ◌∷◌, ◌++◌, length, fold, get_or, Option, Some, None, ◌⊎◌, inl, inr, arith, length-set, ◌+◌, ◌-◌, ◌<◌, ◌≤◌}
+use Rattle.drawing_search.proofs.Common.{cases_Bool, cases_lt, end_of, end_point, from_low, in_append, in_at, in_left}
+use Rattle.drawing_search.proofs.Common.{in_right, inner_nodes, inner_of, inner_step, is_inner, is_on_runs, is_standing}
+use Rattle.drawing_search.proofs.Common.{keeps_lifted, keeps_standing, laid, laid_on, laid_within, limit_between}
+use Rattle.drawing_search.proofs.Common.{nowhere, point_of_node, run_gain, same_bounds, same_walk, to_stands}
+use Rattle.drawing_search.proofs.Common.{true≢false, walk_in, with_piece, with_pieces, without_run, All, AreAlike}
+use Rattle.drawing_search.proofs.Common.{AreBeside, AreTakable, Chain, ChainStep, GraphParts, GridPoint, In, IsBoundOf}
+use Rattle.drawing_search.proofs.Common.{IsClearFor, IsConsistent, IsFreeFor, IsLaidOn, IsLegalSketch, IsRun, IsTakable}
+use Rattle.drawing_search.proofs.Common.{LeastTurns, NodeId, PlainWalk, Scale, SegId, Sketch}
 use Rattle.drawing_search.proofs.Gained.{leads_where, IsBetweenSteps}
-use Rattle.drawing_search.proofs.LaidAll.{same_standing_points}
+use Rattle.drawing_search.proofs.LaidAll.{same_standing_points, gained}
 use Rattle.drawing_search.proofs.Lifts.{inner_from, inner_true, on_from, on_true}
 use Rattle.drawing_search.proofs.PutBack.{same_list}
 use Rattle.drawing_search.proofs.TakenBack.{low_on_runs, none_on_runs, runs_beside, runs_points, takable_each, IsInnerOf, IsOnOf, IsSameBeside}
+use Rattle.drawing_search.proofs.LayingAll.{within_laid}
+use Rattle.drawing_search.proofs.LaySteps.{clear_of}
 
 -- these runs were laid on a drawing, one after another
 pub record IsSoFar (cs : List Chain) (old k : Sketch) : Type 0 where
@@ -43,31 +31,25 @@ none_so_far k = record {
   inner = λ c i m j. absurd i;
 }
 
-points_many : (graph : GraphParts) (n : NodeId) (ts : List ChainStep) (vs : List PlainWalk) (k : Sketch) → length (with_pieces graph n ts vs k).points ≡ length k.points
-points_many graph n [] vs k = refl
-points_many graph n (t ∷ ts) [] k = refl
-points_many graph n (t ∷ ts) (v ∷ vs) k = points_many graph t.to ts vs (with_piece graph n t v k) ∙ length-set k.points t.to.0 (end_point v)
-
-flags_many : (graph : GraphParts) (n : NodeId) (ts : List ChainStep) (vs : List PlainWalk) (k : Sketch) → length (with_pieces graph n ts vs k).stand ≡ length k.stand
-flags_many graph n [] vs k = refl
-flags_many graph n (t ∷ ts) [] k = refl
-flags_many graph n (t ∷ ts) (v ∷ vs) k = flags_many graph t.to ts vs (with_piece graph n t v k) ∙ length-set k.stand t.to.0 true
-
-walks_many : (graph : GraphParts) (n : NodeId) (ts : List ChainStep) (vs : List PlainWalk) (k : Sketch) → length (with_pieces graph n ts vs k).walks ≡ length k.walks
-walks_many graph n [] vs k = refl
-walks_many graph n (t ∷ ts) [] k = refl
-walks_many graph n (t ∷ ts) (v ∷ vs) k = walks_many graph t.to ts vs (with_piece graph n t v k) ∙ length-set k.walks t.seg.0 (Some (from_low graph t.seg n v))
+sizes_stay : (graph : GraphParts) (n : NodeId) (ts : List ChainStep) (vs : List PlainWalk) (k : Sketch)
+    → (length (with_pieces graph n ts vs k).points ≡ length k.points) × (length (with_pieces graph n ts vs k).stand ≡ length k.stand) × (length (with_pieces graph n ts vs k).walks ≡ length k.walks)
+sizes_stay graph n [] vs k = (refl, refl, refl)
+sizes_stay graph n (t ∷ ts) [] k = (refl, refl, refl)
+sizes_stay graph n (t ∷ ts) (v ∷ vs) k =
+    let rest = sizes_stay graph t.to ts vs (with_piece graph n t v k) in
+    (rest.0 ∙ length-set k.points t.to.0 (end_point v), rest.1 ∙ length-set k.stand t.to.0 true, rest.2 ∙ length-set k.walks t.seg.0 (Some (from_low graph t.seg n v)))
 
 -- and one more
 pub one_more_so_far : (graph : GraphParts) → IsConsistent graph → (cs : List Chain) (c : Chain) (old k mid : Sketch) → IsLegalSketch graph k → IsRun graph c → IsClearFor k c → IsLaidOn graph c k mid → IsSoFar cs old k → IsSoFar (cs ++ c ∷ []) old mid
 one_more_so_far graph fit cs c old k mid h run clear on s =
+    let sizes = sizes_stay graph c.from c.steps on.pieces k in
     subst (IsSoFar (cs ++ c ∷ []) old) on.is
     (record {
       same = record {
         bounds = same_bounds graph c.from c.steps on.pieces k ∙ s.same.bounds;
-        points_each = points_many graph c.from c.steps on.pieces k ∙ s.same.points_each;
-        stand_each = flags_many graph c.from c.steps on.pieces k ∙ s.same.stand_each;
-        walks_each = walks_many graph c.from c.steps on.pieces k ∙ s.same.walks_each;
+        points_each = sizes.0 ∙ s.same.points_each;
+        stand_each = sizes.1 ∙ s.same.stand_each;
+        walks_each = sizes.2 ∙ s.same.walks_each;
         stand = λ n off. by_flag n off (cases_Bool (is_standing k n)) ∙ s.same.stand n (λ (d, i, m). off (d, in_before d i, m));
         walks = λ t off. same_walk graph c.from c.steps on.pieces k t (λ q i e. off (c, in_last, (q, i, e))) ∙ s.same.walks t (λ (d, i, m). off (d, in_before d i, m));
       };
@@ -157,3 +139,65 @@ module _ (graph : GraphParts) (fit : IsConsistent graph) (cs : List Chain) (old 
         where
           off : IsOnOf cs t → ⊥
           off on = true≢false (sym (on_true cs t on) ∙ e)
+
+-- ---- one run that is laid where there is room for what it adds, or not, and is taken away again
+
+module _ (graph : GraphParts) (fit : IsConsistent graph) (c : Chain) (k : Sketch) (h : IsLegalSketch graph k) (run : IsRun graph c) (free : IsFreeFor k c) where
+  clear : IsClearFor k c
+  clear = clear_of k c free
+
+  on : (mid : Sketch) → laid graph c k ≡ Some mid → IsLaidOn graph c k mid
+  on mid e = laid_on graph fit c k mid h run clear e
+
+  -- no walk within the limit lays it, so it leaves no room
+  pub one_fails : (scale : Scale) (first : List GridPoint) (l : LeastTurns) → IsBoundOf scale graph k c l → (limit weight ahead most : ℕ) → weight + ahead < limit
+      → most ≡ limit_between l (limit - 1 - weight - ahead) (point_of_node k c.from.0) (point_of_node k (end_of c).0) → laid_within graph most c k ≡ None
+      → (mid : Sketch) → laid graph c k ≡ Some mid → limit ≤ weight + run_gain scale graph first mid c + ahead
+  one_fails scale first l bound limit weight ahead most room is none mid e = by_gain (cases_lt (limit - 1 - weight - ahead) (run_gain scale graph first mid c))
+    where
+      by_gain : (limit - 1 - weight - ahead < run_gain scale graph first mid c) ⊎ (run_gain scale graph first mid c ≤ limit - 1 - weight - ahead) → limit ≤ weight + run_gain scale graph first mid c + ahead
+      by_gain (inl more) = omega (arith, room, more)
+      by_gain (inr less) =
+          let o = on mid e in
+          let few = (gained graph fit scale first c k mid l h run clear bound o).within (limit - 1 - weight - ahead) less in
+          let there : None ≡ Some mid =
+          sym none
+          ∙ ap (λ m. laid_within graph m c k) is
+          ∙ within_laid graph (limit_between l (limit - 1 - weight - ahead) (point_of_node k c.from.0) (point_of_node k (end_of c).0)) c k o.walk o.route few
+          ∙ e in
+          cc
+
+  module _ (mid : Sketch) (there : laid graph c k ≡ Some mid) where
+    pub one_legal : IsLegalSketch graph mid
+    one_legal = (on mid there).legal
+
+    so_far : IsSoFar (c ∷ []) k mid
+    so_far = one_more_so_far graph fit [] c k k mid h run clear (on mid there) (none_so_far k)
+
+    pub one_inner : All (λ (m : NodeId). is_standing mid m.0 ≡ true) (inner_nodes c.steps)
+    one_inner = λ j x below. so_far.inner c (inl refl) (get_or (inner_nodes c.steps) j x) (in_at (inner_nodes c.steps) j x below)
+
+    -- it may be taken away, and then nothing that stands has changed
+    beside : AreBeside (c ∷ [])
+    beside = (λ t i. refl, tt)
+
+    runs : (d : Chain) → In d (c ∷ []) → IsRun graph d
+    runs d (inl e) = subst (IsRun graph) (sym e) run
+    runs d (inr i) = absurd i
+
+    clears : (d : Chain) → In d (c ∷ []) → IsClearFor k d
+    clears d (inl e) = subst (IsClearFor k) (sym e) clear
+    clears d (inr i) = absurd i
+
+    pub one_takable : IsTakable graph mid c
+    one_takable = (so_far_takable graph fit (c ∷ []) k mid one_legal runs beside clears so_far).0
+
+    pub one_back : AreAlike (without_run mid c) k
+    one_back = so_far_alike graph fit (c ∷ []) k mid one_legal runs beside clears so_far
+
+    -- and what holds of it holds of what the run can be laid on
+    pub one_heavy : (scale : Scale) (first : List GridPoint) (limit weight ahead : ℕ) → limit ≤ weight + run_gain scale graph first mid c + ahead → (j : Sketch) → laid graph c k ≡ Some j → limit ≤ weight + run_gain scale graph first j c + ahead
+    one_heavy scale first limit weight ahead heavy j e =
+        let both : Some mid ≡ Some j = sym there ∙ e in
+        let same : mid ≡ j = cc in
+        subst (λ (x : Sketch). limit ≤ weight + run_gain scale graph first x c + ahead) same heavy

@@ -1,32 +1,16 @@
 -- Runs of an attempt are laid one after another: what is known between two of them, and how it ends.
-use Rattle.std.proofs.Common.{◌≡◌, refl, sym, ◌∙◌, ap, ap₂, subst, ℕ, zero, suc, ◌+◌, ◌-◌, ◌<◌, ◌≤◌, true, false, cond, eqb, min, nat_lt, List, [], ◌∷◌, length, ◌++◌, drop, fold, take, get_or, Some, None, inl, inr, arith}
-use Rattle.std.proofs.lemmas.Bool.{lt-ltb, true≢false}
-use Rattle.std.proofs.lemmas.List.{drop_all, drop_more, take_more}
-use Rattle.std.specs.List.{list_any}
-use Rattle.map_base.specs.declared.ids.NodeId.{NodeId}
-use Rattle.graph_core.specs.declared.parts.GraphParts.{GraphParts}
-use Rattle.graph_core.specs.Consistent.{IsConsistent}
-use Rattle.line_chains.specs.declared.chain.Chain.{Chain}
-use Rattle.line_chains.specs.declared.chain.ChainStep.{ChainStep}
-use Rattle.line_chains.specs.Chains.{end_of}
-use Rattle.octi_grid.specs.declared.point.GridPoint.{GridPoint}
-use Rattle.octi_grid.proofs.Members.{any_at, any_from, false_from, In}
-use Rattle.segment_router.proofs.Places.{all_in, in_at}
-use Rattle.drawing_weights.specs.Scales.{Scale}
-use Rattle.run_laying.specs.Attempts.{inner_nodes, is_on_runs}
-use Rattle.run_laying.specs.Laying.{all_laid, if_laid, laid, Sketch}
-use Rattle.run_laying.specs.Runs.{AreBeside, IsRun}
-use Rattle.run_laying.specs.Sketches.{point_of_node, IsFreeFor, IsLegalSketch}
-use Rattle.run_laying.proofs.Attempted.{laid_on, IsClearFor}
-use Rattle.drawing_search.specs.declared.least.LeastTurns.{LeastTurns}
-use Rattle.drawing_search.specs.Alike.{AreAlike}
-use Rattle.drawing_search.specs.Bounds.{gains_at_least, least_between, HaveBounds, IsBoundOf}
-use Rattle.drawing_search.specs.Changes.{without_run, AreLayable, AreTakable}
-use Rattle.drawing_search.specs.Gains.{run_gain, sketch_weight}
-use Rattle.drawing_search.specs.Tries.{if_below, AreAllLaid}
+use Rattle.std.proofs.Common.{◌≡◌, refl, sym, ◌∙◌, ap, ap₂, subst, ℕ, zero, suc, ◌+◌, ◌-◌, ◌<◌, ◌≤◌, true, false, cond, eqb, min, nat_lt, List, [], ◌∷◌, length, ◌++◌, drop, fold, take, get_or, Some, None, inl, arith}
+use Rattle.drawing_search.proofs.Common.{all_in, all_laid, any_at, any_from, drop_all, drop_more, end_of, false_from}
+use Rattle.drawing_search.proofs.Common.{gains_at_least, if_below, if_laid, in_at, inner_nodes, is_on_runs, laid}
+use Rattle.drawing_search.proofs.Common.{laid_on, least_between, list_any, lt-ltb, point_of_node, run_gain}
+use Rattle.drawing_search.proofs.Common.{sketch_weight, take_more, true≢false, without_run, AreAlike, AreAllLaid}
+use Rattle.drawing_search.proofs.Common.{AreBeside, AreLayable, AreTakable, Chain, ChainStep, GraphParts, GridPoint}
+use Rattle.drawing_search.proofs.Common.{HaveBounds, In, IsBoundOf, IsClearFor, IsConsistent, IsFreeFor, IsLegalSketch}
+use Rattle.drawing_search.proofs.Common.{IsRun, LeastTurns, NodeId, Scale, Sketch}
 use Rattle.drawing_search.proofs.LaidBack.{none_so_far, one_more_so_far, so_far_alike, so_far_takable, IsSoFar}
 use Rattle.drawing_search.proofs.LayingAll.{least_of, next_gained, next_ready, no_room, same_least, IsReady}
 use Rattle.drawing_search.proofs.LaySteps.{clear_of}
+use Rattle.drawing_search.proofs.Takable.{in_taken}
 
 -- what runs add at least, one after another, as far as that is no more than a number
 pub gains_step : (f : NodeId → GridPoint) (cs : List Chain) (ls : List LeastTurns) (i : ℕ) (c : Chain) (e : LeastTurns) (p q : GridPoint) (most total b new all : ℕ) → i < length cs → length ls ≡ length cs → c ≡ get_or cs i c
@@ -68,13 +52,6 @@ module _ (graph : GraphParts) (fit : IsConsistent graph) (scale : Scale) (first 
     so_far = none_so_far start;
   }
 
-  in_front : (xs : List Chain) (j : ℕ) (b : Chain) → In b (take j xs) → In b xs
-  in_front [] zero b m = m
-  in_front [] (suc j) b m = m
-  in_front (x ∷ xs) zero b m = absurd m
-  in_front (x ∷ xs) (suc j) b (inl e) = inl e
-  in_front (x ∷ xs) (suc j) b (inr m) = inr (in_front xs j b m)
-
   front_beside : (j : ℕ) (xs : List Chain) → AreBeside xs → AreBeside (take j xs)
   front_beside zero xs beside = tt
   front_beside (suc j) [] beside = tt
@@ -84,16 +61,16 @@ module _ (graph : GraphParts) (fit : IsConsistent graph) (scale : Scale) (first 
       of_front t e = false_from (is_on_runs (take j xs) t.seg.0) (λ f. by_run (any_at (λ (c : Chain). list_any (λ (u : ChainStep). eqb u.seg.0 t.seg.0) c.steps) (take j xs) f))
         where
           by_run : (c : Chain) × In c (take j xs) × (list_any (λ (u : ChainStep). eqb u.seg.0 t.seg.0) c.steps ≡ true) → ⊥
-          by_run (c, i, g) = true≢false (sym (any_from (λ (x : Chain). list_any (λ (u : ChainStep). eqb u.seg.0 t.seg.0) x.steps) xs c (in_front xs j c i) g) ∙ e)
+          by_run (c, i, g) = true≢false (sym (any_from (λ (x : Chain). list_any (λ (u : ChainStep). eqb u.seg.0 t.seg.0) x.steps) xs c (in_taken xs j c i) g) ∙ e)
 
   -- those that were laid may be taken away, and then nothing that stands has changed
   module _ (i : ℕ) (k : Sketch) (legal : IsLegalSketch graph k) (s : IsSoFar (take i runs) start k) where
     pub laid_takable : AreTakable graph k (take i runs)
-    laid_takable = so_far_takable graph fit (take i runs) start k legal (λ c m. run c (in_front runs i c m)) (front_beside i runs layable.beside) (λ c m. clear c (in_front runs i c m)) s
+    laid_takable = so_far_takable graph fit (take i runs) start k legal (λ c m. run c (in_taken runs i c m)) (front_beside i runs layable.beside) (λ c m. clear c (in_taken runs i c m)) s
 
     pub laid_given_up : (fin : Sketch) → fin ≡ fold without_run k (take i runs) → if_below (sketch_weight scale graph first) limit (all_laid graph runs start) ≡ None → AreAllLaid scale graph first limit runs start fin None
     laid_given_up fin is none =
-        (none, subst (λ (j : Sketch). AreAlike j start) (sym is) (so_far_alike graph fit (take i runs) start k legal (λ c m. run c (in_front runs i c m)) (front_beside i runs layable.beside) (λ c m. clear c (in_front runs i c m)) s))
+        (none, subst (λ (j : Sketch). AreAlike j start) (sym is) (so_far_alike graph fit (take i runs) start k legal (λ c m. run c (in_taken runs i c m)) (front_beside i runs layable.beside) (λ c m. clear c (in_taken runs i c m)) s))
 
   module _ (i : ℕ) (k : Sketch) (weight ahead : ℕ) (a : IsLayingAll scale graph first runs least start limit i k weight ahead) where
     -- all were laid

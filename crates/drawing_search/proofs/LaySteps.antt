@@ -1,35 +1,15 @@
 -- A run that is laid along the walk that was found: where it is cut, and how its steps begin.
 use Rattle.std.proofs.Common.{◌≡◌, refl, sym, ◌∙◌, ap, subst, ℕ, ◌+◌, ◌<◌, ◌≤◌, ◌⊎◌, inl, inr, true, false, List, [], ◌∷◌, length, map, get_or, Some, None, arith}
-use Rattle.std.proofs.lemmas.Bool.{cases_lt, leb-true}
-use Rattle.std.proofs.lemmas.List.FromFn.{get_or-map-range_with_len}
-use Rattle.std.specs.List.{list_all, range_with_len}
-use Rattle.std.specs.Prelude.{nat_le}
-use Rattle.map_base.specs.declared.ids.NodeId.{NodeId}
-use Rattle.graph_core.specs.declared.parts.GraphParts.{GraphParts}
-use Rattle.graph_core.specs.Consistent.{IsConsistent}
-use Rattle.line_chains.specs.declared.chain.Chain.{Chain}
-use Rattle.line_chains.specs.declared.chain.ChainStep.{ChainStep}
-use Rattle.line_chains.specs.Chains.{end_of}
-use Rattle.octi_grid.specs.declared.dir.Dir.{Dir}
-use Rattle.octi_grid.specs.declared.point.GridPoint.{GridPoint}
-use Rattle.octi_grid.specs.Ways.{points_from}
-use Rattle.octi_grid.specs.Walks.{points_of, IsWalk, PlainWalk}
-use Rattle.octi_grid.specs.Legal.{is_even}
-use Rattle.grid_board.specs.Boards.{contains}
-use Rattle.segment_router.proofs.Places.{all_in}
-use Rattle.walk_search.specs.Routes.{if_within}
-use Rattle.run_laying.specs.Attempts.{inner_nodes}
-use Rattle.run_laying.specs.Laying.{board_under, first_seg_of, last_seg_of, run_walk, Sketch}
-use Rattle.run_laying.specs.Pieces.{cut_place, even_steps, piece_of, pieces_of, point_at}
-use Rattle.run_laying.specs.Runs.{IsRun}
-use Rattle.run_laying.specs.Sketches.{is_standing, walk_in, IsFreeFor, IsLegalSketch}
-use Rattle.run_laying.proofs.Attempted.{laying_of, IsClearFor}
-use Rattle.run_laying.proofs.EvenCuts.{cuts_of, length-points, AreCuts}
 use Rattle.run_laying.proofs.FreeRoutes.{free_of_route}
 use Rattle.run_laying.proofs.Piecewise.{IsFreeWalk}
-use Rattle.drawing_search.specs.Tracks.{piece_along, IsTrack}
+use Rattle.drawing_search.proofs.Common.{all_in, board_under, cases_lt, contains, cut_place, cuts_of, end_of}
+use Rattle.drawing_search.proofs.Common.{even_steps, first_seg_of, get_or-map-range_with_len, if_within, inner_nodes}
+use Rattle.drawing_search.proofs.Common.{is_even, is_standing, last_seg_of, laying_of, leb-true, length-points}
+use Rattle.drawing_search.proofs.Common.{list_all, nat_le, piece_along, piece_of, pieces_of, point_at, points_from}
+use Rattle.drawing_search.proofs.Common.{points_of, range_with_len, run_walk, short_inside, walk_in, AreCuts, Chain}
+use Rattle.drawing_search.proofs.Common.{ChainStep, Dir, GraphParts, GridPoint, IsClearFor, IsConsistent, IsFreeFor}
+use Rattle.drawing_search.proofs.Common.{IsLegalSketch, IsRun, IsTrack, IsWalk, NodeId, PlainWalk, Sketch}
 use Rattle.drawing_search.proofs.Laid.{within_some, IsLayingFrom}
-use Rattle.drawing_search.proofs.Nearby.{short_inside}
 
 pub clear_of : (k : Sketch) (c : Chain) → IsFreeFor k c → IsClearFor k c
 clear_of k c free = record {

@@ -1,26 +1,11 @@
 -- Runs of an attempt are laid one after another, and given up as soon as the drawing can't get lighter by it.
-use Rattle.std.proofs.Common.{◌≡◌, refl, sym, ◌∙◌, ap, subst, ℕ, ◌+◌, ◌≤◌, Bool, true, false, cond, nat_le, nat_lt, List, ◌∷◌, Option, Some, None, inl, inr, arith}
-use Rattle.std.proofs.lemmas.Bool.{le-leb}
-use Rattle.std.proofs.lemmas.Bool.Decides.{nat_tests}
-use Rattle.map_base.specs.declared.ids.NodeId.{NodeId}
-use Rattle.graph_core.specs.declared.parts.GraphParts.{GraphParts}
-use Rattle.graph_core.specs.Consistent.{IsConsistent}
-use Rattle.line_chains.specs.declared.chain.Chain.{Chain}
-use Rattle.octi_grid.specs.declared.point.GridPoint.{GridPoint}
-use Rattle.octi_grid.specs.Walks.{cost_of, PlainWalk}
-use Rattle.octi_grid.proofs.Members.{In}
-use Rattle.walk_search.specs.Routes.{if_within}
-use Rattle.drawing_weights.specs.Scales.{Scale}
-use Rattle.run_laying.specs.Laying.{all_laid, board_under, if_laid, laid, laid_along, run_walk, Sketch}
-use Rattle.run_laying.specs.Runs.{AreBeside, IsRun}
-use Rattle.run_laying.specs.Sketches.{point_of_node, IsLegalSketch}
-use Rattle.run_laying.proofs.Attempted.{beside_off, laid_on, still_clear, IsClearFor, IsLaidOn}
-use Rattle.drawing_search.specs.declared.least.LeastTurns.{LeastTurns}
-use Rattle.drawing_search.specs.Bounds.{gains_at_least, HaveBounds}
-use Rattle.drawing_search.specs.Gains.{run_gain, sketch_weight}
-use Rattle.drawing_search.specs.Tries.{if_below}
-use Rattle.drawing_search.specs.Trying.{laid_within}
-use Rattle.drawing_search.proofs.LaidAll.{bounds_still, gained, gains_stay, more_walks, rest_no_less, IsGained}
+use Rattle.std.proofs.Common.{◌≡◌, refl, sym, ◌∙◌, ap, subst, ℕ, ◌+◌, ◌≤◌, Bool, true, false, cond, nat_le, nat_lt, List, ◌∷◌, Option, Some, None, inl, inr, arith, []}
+use Rattle.drawing_search.proofs.Common.{all_laid, beside_off, board_under, cost_of, gains_at_least, if_below, if_laid}
+use Rattle.drawing_search.proofs.Common.{if_within, laid, laid_along, laid_on, laid_within, le-leb, nat_tests}
+use Rattle.drawing_search.proofs.Common.{point_of_node, run_gain, run_walk, sketch_weight, still_clear, AreBeside}
+use Rattle.drawing_search.proofs.Common.{Chain, GraphParts, GridPoint, HaveBounds, In, IsClearFor, IsConsistent}
+use Rattle.drawing_search.proofs.Common.{IsLaidOn, IsLegalSketch, IsRun, LeastTurns, NodeId, PlainWalk, Scale, Sketch}
+use Rattle.drawing_search.proofs.LaidAll.{bounds_still, gained, gains_stay, more_walks, IsGained}
 
 -- runs that may be laid on a sketch, with their bounds
 pub record IsReady (scale : Scale) (graph : GraphParts) (k : Sketch) (cs : List Chain) (ls : List LeastTurns) : Type 0 where
@@ -58,14 +43,6 @@ module _ (graph : GraphParts) (fit : IsConsistent graph) (scale : Scale) (first 
   abbrev weigh : Sketch → ℕ
   weigh k = sketch_weight scale graph first k
 
-  -- where the rest of the runs can't get it below a weight
-  pub too_heavy : (weight : ℕ) (cs : List Chain) (ls : List LeastTurns) (k : Sketch) → IsReady scale graph k cs ls → weight ≤ sketch_weight scale graph first k + least_of k cs ls → if_below (sketch_weight scale graph first) weight (all_laid graph cs k) ≡ None
-  too_heavy weight cs ls k ready heavy = by_laid (all_laid graph cs k) refl
-    where
-      by_laid : (o : Option Sketch) → all_laid graph cs k ≡ o → if_below (sketch_weight scale graph first) weight o ≡ None
-      by_laid None is = refl
-      by_laid (Some fin) is = below_none (sketch_weight scale graph first) weight fin (omega (arith, heavy, rest_no_less graph fit scale first cs ls k fin ready.legal ready.runs ready.beside ready.clear ready.have is))
-
   module _ (c : Chain) (cs : List Chain) (l : LeastTurns) (ls : List LeastTurns) (k : Sketch) (ready : IsReady scale graph k (c ∷ cs) (l ∷ ls)) where
     -- the next run is laid
     pub on : (mid : Sketch) → laid graph c k ≡ Some mid → IsLaidOn graph c k mid
@@ -90,10 +67,33 @@ module _ (graph : GraphParts) (fit : IsConsistent graph) (scale : Scale) (first 
     pub next_gained : (mid : Sketch) (e : laid graph c k ≡ Some mid) → IsGained graph fit scale first c k mid l (on mid e).walk
     next_gained mid e = gained graph fit scale first c k mid l ready.legal (ready.runs c (inl refl)) (ready.clear c (inl refl)) ready.have.0 (on mid e)
 
-    -- where it leaves no room below a weight, the drawing gets no lighter
-    pub no_room : (weight : ℕ) → ((mid : Sketch) → laid graph c k ≡ Some mid → weight ≤ sketch_weight scale graph first k + run_gain scale graph first mid c + least_of k cs ls) → if_below (sketch_weight scale graph first) weight (all_laid graph (c ∷ cs) k) ≡ None
-    no_room weight heavy = by_laid (laid graph c k) refl
-      where
-        by_laid : (o : Option Sketch) → laid graph c k ≡ o → if_below (sketch_weight scale graph first) weight (if_laid (all_laid graph cs) o) ≡ None
-        by_laid None is = refl
-        by_laid (Some mid) is = too_heavy weight cs ls mid (next_ready mid is) (omega (arith, heavy mid is, (next_gained mid is).weight, same_least mid is))
+  -- all of them add no less than their bounds together
+  rest_no_less : (cs : List Chain) (ls : List LeastTurns) (k fin : Sketch) → IsReady scale graph k cs ls → all_laid graph cs k ≡ Some fin → sketch_weight scale graph first k + least_of k cs ls ≤ sketch_weight scale graph first fin
+  rest_no_less [] ls k fin ready e = let same : k ≡ fin = cc in omega (arith, ap (sketch_weight scale graph first) same)
+  rest_no_less (c ∷ cs) [] k fin ready e = absurd ready.have
+  rest_no_less (c ∷ cs) (l ∷ ls) k fin ready e = by_laid (λ mid r found. rest_no_less cs ls mid fin r found) (laid graph c k) refl e
+    where
+      by_laid : ((mid : Sketch) → IsReady scale graph mid cs ls → all_laid graph cs mid ≡ Some fin → sketch_weight scale graph first mid + least_of mid cs ls ≤ sketch_weight scale graph first fin)
+          → (o : Option Sketch) → laid graph c k ≡ o → if_laid (all_laid graph cs) o ≡ Some fin → sketch_weight scale graph first k + least_of k (c ∷ cs) (l ∷ ls) ≤ sketch_weight scale graph first fin
+      by_laid rest None is found = cc
+      by_laid rest (Some mid) is found =
+          let g = next_gained c cs l ls k ready mid is in
+          let later = rest mid (next_ready c cs l ls k ready mid is) found in
+          omega (arith, g.weight, g.no_less, later, same_least c cs l ls k ready mid is)
+
+  -- where the rest of the runs can't get it below a weight
+  pub too_heavy : (weight : ℕ) (cs : List Chain) (ls : List LeastTurns) (k : Sketch) → IsReady scale graph k cs ls → weight ≤ sketch_weight scale graph first k + least_of k cs ls → if_below (sketch_weight scale graph first) weight (all_laid graph cs k) ≡ None
+  too_heavy weight cs ls k ready heavy = by_laid (all_laid graph cs k) refl
+    where
+      by_laid : (o : Option Sketch) → all_laid graph cs k ≡ o → if_below (sketch_weight scale graph first) weight o ≡ None
+      by_laid None is = refl
+      by_laid (Some fin) is = below_none (sketch_weight scale graph first) weight fin (omega (arith, heavy, rest_no_less cs ls k fin ready is))
+
+  -- where it leaves no room below a weight, the drawing gets no lighter
+  pub no_room : (c : Chain) (cs : List Chain) (l : LeastTurns) (ls : List LeastTurns) (k : Sketch) → IsReady scale graph k (c ∷ cs) (l ∷ ls) → (weight : ℕ)
+      → ((mid : Sketch) → laid graph c k ≡ Some mid → weight ≤ sketch_weight scale graph first k + run_gain scale graph first mid c + least_of k cs ls) → if_below (sketch_weight scale graph first) weight (all_laid graph (c ∷ cs) k) ≡ None
+  no_room c cs l ls k ready weight heavy = by_laid (laid graph c k) refl
+    where
+      by_laid : (o : Option Sketch) → laid graph c k ≡ o → if_below (sketch_weight scale graph first) weight (if_laid (all_laid graph cs) o) ≡ None
+      by_laid None is = refl
+      by_laid (Some mid) is = too_heavy weight cs ls mid (next_ready c cs l ls k ready mid is) (omega (arith, heavy mid is, (next_gained c cs l ls k ready mid is).weight, same_least c cs l ls k ready mid is))

@@ -1,22 +1,12 @@
 -- The bounds of a run are the least over all ports that its ends may have.
-use Rattle.std.proofs.Common.{◌≡◌, refl, sym, ◌∙◌, ap, ℕ, ◌+◌, ◌*◌, ◌<◌, Bool, true, false, cond, eqb, min, List, [], ◌∷◌, ◌++◌, length, filter, fold, map, get_or, Option, Some, None, arith}
-use Rattle.std.proofs.lemmas.List.FromFn.{get_or-map-range_with_len, length-map-range_with_len}
-use Rattle.std.proofs.lemmas.List.Sums.{fold-append}
-use Rattle.std.specs.Int.{bit_at}
-use Rattle.std.specs.List.{flat_map, range_with_len}
-use Rattle.std.specs.Prelude.{slice_index}
-use Rattle.graph_core.specs.declared.parts.GraphParts.{GraphParts}
-use Rattle.line_chains.specs.declared.chain.Chain.{Chain}
-use Rattle.line_chains.specs.Chains.{end_of}
-use Rattle.octi_grid.specs.declared.dir.Dir.{Dir}
-use Rattle.octi_grid.specs.Ways.{number_of, reverse_of}
-use Rattle.walk_search.specs.Routes.{directions}
-use Rattle.drawing_weights.specs.Scales.{Scale}
-use Rattle.run_laying.specs.Laying.{first_seg_of, last_seg_of, Sketch}
-use Rattle.drawing_search.specs.declared.least.LeastTurns.{LeastTurns}
-use Rattle.drawing_search.specs.Bounds.{overs_by, with_first_by, with_last_by, with_walk_by, AreOvers, IsLeastOf}
-use Rattle.drawing_search.specs.Gains.{turns_by}
-use Rattle.drawing_search.specs.Least.{allowed_dirs, free_nodes, least_beside, least_by, never, ports_for, turn_price, turns_at_least}
+use Rattle.std.proofs.Common.{◌≡◌, refl, sym, ◌∙◌, ap, ℕ, ◌+◌, ◌*◌, ◌<◌, Bool, true, false, cond, eqb, min, List, [], ◌∷◌, ◌++◌, length, filter, fold, map, get_or, Option, Some, None, arith, ap₂, ◌≤◌, ◌⊎◌, inl, inr, replicate}
+use Rattle.drawing_search.proofs.Common.{allowed_dirs, bit_at, cases_lt, directions, end_of, fill_by_all, first_seg_of}
+use Rattle.drawing_search.proofs.Common.{flat_map, fold-append, free_nodes, get_or-map-range_with_len, get_or-replicate}
+use Rattle.drawing_search.proofs.Common.{get_or_past, last_seg_of, least_beside, least_by, length-map-range_with_len}
+use Rattle.drawing_search.proofs.Common.{never, number_of, overs_by, ports_for, range_with_len, reverse_of, slice_index}
+use Rattle.drawing_search.proofs.Common.{turn_price, turns_at_least, turns_by, with_first_by, with_last_by}
+use Rattle.drawing_search.proofs.Common.{with_walk_by, AreOvers, Chain, Dir, GraphParts, IsLeastOf, IsSmallLeast}
+use Rattle.drawing_search.proofs.Common.{LeastTurns, Scale, Sketch}
 use Rattle.drawing_search.proofs.PutBack.{same_list}
 
 -- a walk that is taken into account
@@ -142,10 +132,7 @@ module _ (scale : Scale) (graph : GraphParts) (k : Sketch) (c : Chain) where
   }
     where
       there : new ≡ fold (λ (m : LeastTurns) (d : Dir). with_first_by m d (from_over d) (map to_over directions)) l directions
-      there =
-          is
-          ∙ ap (λ (os : List (Option ℕ)). fold (λ (m : LeastTurns) (d : Dir). with_first_by m d (get_or os (number_of d) None) to) l directions) are_from
-          ∙ ap (λ (os : List (Option ℕ)). fold (λ (m : LeastTurns) (d : Dir). with_first_by m d (from_over d) os) l directions) are_to
+      there = is ∙ ap₂ (λ (os ps : List (Option ℕ)). fold (λ (m : LeastTurns) (d : Dir). with_first_by m d (get_or os (number_of d) None) ps) l directions) are_from are_to
 
       value : (way : ℕ) → way < 9 → get_or new.by way 0 ≡ get_or (map (least_beside scale graph k c) (range_with_len 0 9)) way 0
       value way few =
@@ -153,3 +140,40 @@ module _ (scale : Scale) (graph : GraphParts) (k : Sketch) (c : Chain) where
           ∙ (first_values l way directions few price_is).0
           ∙ ap (λ n. fold min n (flat_map (all_last way) (allowed_dirs graph k c.from.0 (first_seg_of c.steps)))) (all_never way few)
           ∙ sym (get_or-map-range_with_len (least_beside scale graph k c) 0 9 way way 0 few (omega arith))
+
+-- ---- bounds of a run as they are made: one walk more, and one way more in each walk
+
+abbrev pub least_of : List ℕ → ℕ → ℕ → LeastTurns
+least_of by price free = record { by = by; per_turn = price; free_turns = free }
+
+-- a walk more was taken into account, way by way
+pub walk_made : (l new : LeastTurns) (first last : Dir) (overs : ℕ) → length new.by ≡ 9 → ((k : ℕ) → k < 9 → get_or new.by k 0 ≡ min (get_or l.by k 0) (overs + l.per_turn * turns_at_least first last k)) → new.per_turn ≡ l.per_turn → new.free_turns ≡ l.free_turns
+    → new ≡ with_walk_by l first last overs
+walk_made l new first last overs each by price free =
+    λ i. record { by = fill_by_all (λ k. min (get_or l.by k 0) (overs + l.per_turn * turns_at_least first last k)) new.by 9 0 each by i; per_turn = price i; free_turns = free i }
+
+-- and all stay small
+pub walk_small : (l : LeastTurns) (first last : Dir) (overs : ℕ) → IsSmallLeast l → IsSmallLeast (with_walk_by l first last overs)
+walk_small l first last overs small = record {
+  each = length-map-range_with_len (λ k. min (get_or l.by k 0) (overs + l.per_turn * turns_at_least first last k)) 0 9;
+  by = λ k. at k (cases_lt k 9);
+  price = small.price;
+  free = small.free;
+}
+  where
+    at : (k : ℕ) → (k < 9) ⊎ (9 ≤ k) → get_or (map (λ j. min (get_or l.by j 0) (overs + l.per_turn * turns_at_least first last j)) (range_with_len 0 9)) k 0 ≤ 1125899906842624
+    at k (inl few) =
+        let is = get_or-map-range_with_len (λ j. min (get_or l.by j 0) (overs + l.per_turn * turns_at_least first last j)) 0 9 k k 0 few (omega arith) in
+        omega (arith, is, small.by k)
+    at k (inr past) =
+        let is = get_or_past (map (λ j. min (get_or l.by j 0) (overs + l.per_turn * turns_at_least first last j)) (range_with_len 0 9)) k 0
+        (omega (arith, past, length-map-range_with_len (λ j. min (get_or l.by j 0) (overs + l.per_turn * turns_at_least first last j)) 0 9)) in
+        omega (arith, is)
+
+-- bounds before any walk was looked at
+pub never_small : (price free : ℕ) → price ≤ 101 → free ≤ 80000 → IsSmallLeast (least_of (replicate 9 1125899906842624) price free)
+never_small price free few most = record { each = refl; by = λ k. at k (cases_lt k 9); price = few; free = most }
+  where
+    at : (k : ℕ) → (k < 9) ⊎ (9 ≤ k) → get_or (replicate 9 1125899906842624) k 0 ≤ 1125899906842624
+    at k (inl less) = let is = get_or-replicate {A = ℕ} 9 k 1125899906842624 0 less in omega (arith, is)
+    at k (inr past) = let is = get_or_past {X = ℕ} (replicate 9 1125899906842624) k 0 past in omega (arith, is)

@@ -1,32 +1,22 @@
--- The board on which attempts are made, and points of walks
-mod BoundParts
-mod Trails
-pub mod Spans
+mod Common
 -- how the board of a sketch changes, and what it is when something is taken off
 mod BoardsOf
 mod TakenOff
-mod OnSketches
 -- walks step by step, and runs that are laid along a walk that is cut
 mod Steps
 mod Ranges
-mod Farther
-mod WalksOff
 mod RunEnds
 pub mod RunReads
-mod AskedWalks
 pub mod FewSteps
 mod Laid
 mod LaySteps
-mod EvenPlaces
 mod RunSteps
 -- runs and nodes that are taken off and put back; drawings that differ where nodes lie that don't stand
 pub mod Takable
-mod Nearby
 mod PutBack
 mod TakenBack
 mod Alikes
 -- pairs of segments that lines join, and what a run adds to the weight of a drawing
-mod JoinedPairs
 mod FieldFacts
 pub mod Growing
 pub mod Gained
@@ -35,30 +25,21 @@ mod Restored
 pub mod Lifts
 mod LiftedGroups
 -- bounds: sums of turns, straight ways, prices of turns, the limit of a walk; fewer ports, and runs one after another
-mod TurnSums
 mod StraightWays
 mod PricedRuns
-mod Bounded
 mod RunBounds
 mod LeastTurning
-mod LeastSteps
-mod Spaced
 pub mod LaidAll
 mod LaidBack
 mod LayingAll
-mod RunLaid
 mod LayLoop
 -- attempts on whole drawings are those on their walks
 mod OnWalks
 -- and what an attempt takes off, moves and lays
 mod Moving
-mod Attempting
 mod AttemptCases
-mod Offs
 mod AttemptReads
 mod TriedGroups
-mod GroupOf
-mod Passes
 mod Searches
 mod Beginning
 mod Built

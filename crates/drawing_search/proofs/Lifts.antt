@@ -1,56 +1,28 @@
 -- What is left of a whole drawing from which runs are taken off, and then nodes that are to move: what it weighs, and that all
 -- of it can be put back.
 use Rattle.std.proofs.Common.{◌≡◌, refl, sym, ◌∙◌, ap, ap₂, subst, ℕ, zero, suc, ◌+◌, ◌*◌, ◌<◌, Bool, true, false, not, cond, eqb, ◌&&◌, List, [], ◌∷◌, ◌++◌, length, fold, map, take, get_or, Option, Some, None, ◌⊎◌, inl, inr, arith, get_or-set_same, get_or-set_other}
-use Rattle.std.proofs.lemmas.Bool.{cases_eq, eq-eqb, eqb-true, ne_eqb, true≢false}
-use Rattle.std.proofs.lemmas.List.FromFn.{get_or-map-range_with_len, length-map-range_with_len}
-use Rattle.std.specs.List.{cons_option, filter_map, flat_map, list_all, list_any, range_with_len, sum_by}
-use Rattle.std.specs.Prelude.{option_map}
-use Rattle.map_base.specs.declared.ids.NodeId.{NodeId}
-use Rattle.map_base.specs.declared.ids.SegId.{SegId}
-use Rattle.graph_core.specs.declared.parts.GraphParts.{GraphParts}
-use Rattle.graph_core.specs.Consistent.{IsConsistent}
-use Rattle.line_chains.specs.declared.chain.Chain.{Chain}
-use Rattle.line_chains.specs.declared.chain.ChainStep.{ChainStep}
-use Rattle.line_chains.specs.Chains.{end_after, end_of, round_of}
-use Rattle.octi_grid.specs.declared.point.GridPoint.{GridPoint}
-use Rattle.octi_grid.specs.Walks.{points_of, PlainWalk}
-use Rattle.octi_grid.proofs.Members.{any_at, any_from, in_append, in_flat_map, from_flat_map, In}
-use Rattle.grid_board.specs.declared.bounds.Bounds.{Bounds}
-use Rattle.grid_board.specs.Boards.{contains}
-use Rattle.segment_router.proofs.Places.{all_in, in_at}
-use Rattle.segment_router.proofs.SettledLemmas.{nowhere}
-use Rattle.drawing_weights.specs.Scales.{Scale}
-use Rattle.run_laying.specs.Attempts.{has_node, inner_nodes, is_inner, is_on_runs, Attempt}
-use Rattle.run_laying.specs.Laying.{Sketch}
-use Rattle.run_laying.specs.Runs.{AreBeside, AreOnce, AreSteps, IsFitting, IsRun}
-use Rattle.run_laying.specs.Sketches.{is_standing, lifted, point_of_node, walk_in, IsEndOf, IsLegalSketch}
-use Rattle.run_laying.proofs.Attempted.{beside_off, HasWalk}
-use Rattle.run_laying.proofs.Kept.{first_leads}
-use Rattle.run_laying.proofs.RunFacts.{contains_in, end_below, in_round, inner_of, inner_off, leads_from, leads_to, once_first, step_of}
-use Rattle.run_laying.proofs.Shown.{stands_below}
-use Rattle.drawing_search.specs.Alike.{AreAlike}
-use Rattle.drawing_search.specs.Changes.{stood_at, without_run, without_walks, AreApart, AreLiftable, AreTakable, CanStand, CanWalk, IsTakable}
-use Rattle.drawing_search.specs.Gains.{apart_in, node_weight_in, run_gain, segment_weight, sketch_weight, turns_in}
-use Rattle.drawing_search.specs.Lifting.{points_along, put_back, walk_along, walks_along, CanPutBack}
-use Rattle.drawing_search.specs.Tries.{stays_standing, taken_off, walk_left}
-use Rattle.drawing_search.specs.Trying.{IsWhole}
+use Rattle.drawing_search.proofs.Common.{all_in, any_at, any_from, apart_in, beside_off, cases_eq, cons_option}
+use Rattle.drawing_search.proofs.Common.{contains, contains_in, end_after, end_below, end_of, eq-eqb, eqb-true}
+use Rattle.drawing_search.proofs.Common.{filter_map, first_leads, flat_map, from_flat_map, get_or-map-range_with_len}
+use Rattle.drawing_search.proofs.Common.{has_node, in_append, in_at, in_flat_map, in_round, inner_nodes, inner_of}
+use Rattle.drawing_search.proofs.Common.{inner_off, is_inner, is_on_runs, is_standing, leads_from, leads_to}
+use Rattle.drawing_search.proofs.Common.{length-map-range_with_len, lifted, list_all, list_any, ne_eqb, node_weight_in}
+use Rattle.drawing_search.proofs.Common.{nowhere, once_first, option_map, point_of_node, points_along, points_of}
+use Rattle.drawing_search.proofs.Common.{put_back, range_with_len, round_of, run_gain, segment_weight, sketch_weight}
+use Rattle.drawing_search.proofs.Common.{stands_below, stays_standing, step_of, stood_at, sum_by, taken_off, true≢false}
+use Rattle.drawing_search.proofs.Common.{turns_in, walk_along, walk_in, walk_left, walks_along, without_run}
+use Rattle.drawing_search.proofs.Common.{without_walks, AreAlike, AreApart, AreBeside, AreLiftable, AreOnce, AreSteps}
+use Rattle.drawing_search.proofs.Common.{AreTakable, Attempt, Bounds, CanPutBack, CanStand, CanWalk, Chain, ChainStep}
+use Rattle.drawing_search.proofs.Common.{GraphParts, GridPoint, HasWalk, In, IsConsistent, IsEndOf, IsFitting}
+use Rattle.drawing_search.proofs.Common.{IsLegalSketch, IsRun, IsTakable, IsWhole, NodeId, PlainWalk, Scale, SegId}
+use Rattle.drawing_search.proofs.Common.{Sketch}
 use Rattle.drawing_search.proofs.Growing.{at_one, one_more, same_sum}
 use Rattle.drawing_search.proofs.PutBack.{all_back, can_stand_each, can_walk_each, flag_still, same_list, stood_bounds, stood_flags, stood_points, stood_walks, AreGivenOnce, ArePutOnce, IsGiven, IsPut}
 use Rattle.drawing_search.proofs.Restored.{run_weighs}
-use Rattle.drawing_search.proofs.Takable.{inner_apart, legal_without, liftable_each, walk_below}
+use Rattle.drawing_search.proofs.Takable.{inner_apart, legal_without, liftable_each, walk_below, in_taken, in_mapped, from_map}
 use Rattle.drawing_search.proofs.TakenBack.{inner_beside, lift_bounds, lift_flags, lift_legal, lift_points, lift_walks, low_each, low_on_runs, none_on_runs, runs_beside, runs_points, still_low, still_standing, takable_each, IsInnerOf, IsOneOf, IsOnOf, IsSameBeside}
 
 -- ---- what is in lists that are made of others
-
-pub in_mapped : {X Y : Type 0} (f : X → Y) (xs : List X) (x : X) → In x xs → In (f x) (map f xs)
-in_mapped f [] x i = absurd i
-in_mapped f (y ∷ ys) x (inl e) = inl (ap f e)
-in_mapped f (y ∷ ys) x (inr i) = inr (in_mapped f ys x i)
-
-pub from_map : {X Y : Type 0} (f : X → Y) (xs : List X) (y : Y) → In y (map f xs) → (x : X) × In x xs × (y ≡ f x)
-from_map f [] y i = absurd i
-from_map f (x ∷ xs) y (inl e) = (x, inl refl, e)
-from_map f (x ∷ xs) y (inr i) = let rest = from_map f xs y i in (rest.0, inr rest.1, rest.2)
 
 from_filter_map : {X Y : Type 0} (f : X → Option Y) (xs : List X) (y : Y) → In y (filter_map f xs) → (x : X) × In x xs × (f x ≡ Some y)
 from_filter_map {X} {Y} f [] y i = absurd i
@@ -69,8 +41,6 @@ in_filter_map {X} {Y} f (z ∷ zs) x y (inr i) e = by_first (f z) (in_filter_map
     by_first : (o : Option Y) → In y (filter_map f zs) → In y (cons_option o (filter_map f zs))
     by_first None j = j
     by_first (Some w) j = inr j
-
--- ---- a group
 
 -- runs that share no segment, and different nodes that lie between no two of their steps and whose segments are all on them
 pub record IsGroup (graph : GraphParts) (nodes : List NodeId) (runs : List Chain) : Type 0 where
@@ -94,15 +64,18 @@ group_of graph a fits apart = record {
     bare_at : (n : NodeId) → In n a.nodes → (k : ℕ) (d : SegId) → k < length (round_of graph n) → is_on_runs a.runs (get_or (round_of graph n) k d).0 ≡ true
     bare_at n i = all_in (λ (m : NodeId). (k : ℕ) (d : SegId) → k < length (round_of graph m) → is_on_runs a.runs (get_or (round_of graph m) k d).0 ≡ true) a.nodes n (λ k d h. fits.all k d h) i
 
--- a node lies between steps of runs, and a segment is on them, where the tests say so
+-- a node is one of some or lies between steps of runs, and a segment is on them, where the tests say so
+pub node_true : (nodes : List NodeId) (n : ℕ) → IsOneOf nodes n → has_node nodes n ≡ true
+node_true nodes n (m, i, e) = any_from (λ (p : NodeId). eqb p.0 n) nodes m i (eq-eqb m.0 n e)
+
+pub node_from : (nodes : List NodeId) (n : ℕ) → has_node nodes n ≡ true → IsOneOf nodes n
+node_from nodes n e = let at = any_at (λ (p : NodeId). eqb p.0 n) nodes e in (at.0, at.1, eqb-true at.0.0 n at.2)
+
 pub inner_true : (runs : List Chain) (n : ℕ) → IsInnerOf runs n → is_inner runs n ≡ true
-inner_true runs n (c, i, (m, j, e)) = any_from (λ (x : Chain). has_node (inner_nodes x.steps) n) runs c i (any_from (λ (p : NodeId). eqb p.0 n) (inner_nodes c.steps) m j (eq-eqb m.0 n e))
+inner_true runs n (c, i, one) = any_from (λ (x : Chain). has_node (inner_nodes x.steps) n) runs c i (node_true (inner_nodes c.steps) n one)
 
 pub inner_from : (runs : List Chain) (n : ℕ) → is_inner runs n ≡ true → IsInnerOf runs n
-inner_from runs n e =
-    let run = any_at (λ (x : Chain). has_node (inner_nodes x.steps) n) runs e in
-    let at = any_at (λ (p : NodeId). eqb p.0 n) (inner_nodes run.0.steps) run.2 in
-    (run.0, run.1, (at.0, at.1, eqb-true at.0.0 n at.2))
+inner_from runs n e = let run = any_at (λ (x : Chain). has_node (inner_nodes x.steps) n) runs e in (run.0, run.1, node_from (inner_nodes run.0.steps) n run.2)
 
 pub on_true : (runs : List Chain) (s : SegId) → IsOnOf runs s → is_on_runs runs s.0 ≡ true
 on_true runs s (c, i, (q, j, e)) = any_from (λ (x : Chain). list_any (λ (t : ChainStep). eqb t.seg.0 s.0) x.steps) runs c i (any_from (λ (t : ChainStep). eqb t.seg.0 s.0) c.steps q j (eq-eqb q.seg.0 s.0 e))
@@ -140,8 +113,6 @@ pub lifted_at : (graph : GraphParts) (k : Sketch) (ns : List NodeId) → AreLift
 lifted_at graph k [] can i d h = absurd (omega arith)
 lifted_at graph k (n ∷ ns) can zero d h = (can.0.legal, can.0.stands)
 lifted_at graph k (n ∷ ns) can (suc i) d h = lifted_at graph (lifted k n) ns can.1 i d (omega arith)
-
--- ---- one node
 
 -- a node that is taken off, and at which no line turns then, weighed for its distance
 pub node_weighs : (scale : Scale) (graph : GraphParts) (first : List GridPoint) (k : Sketch) → IsLegalSketch graph k → (n : NodeId) → is_standing k n.0 ≡ true
@@ -213,13 +184,6 @@ module _ (graph : GraphParts) (fit : IsConsistent graph) (old : Sketch) (h : IsL
         (runs_beside (take i runs) old).stand n (λ (b, m, inner). not_inner b m inner)
         ∙ all_stand n (end_below graph fit q.seg n (step_of graph c.from c.steps (g.run c on).steps q j).segment is_end)
       where
-        in_taken : (xs : List Chain) (j : ℕ) (b : Chain) → In b (take j xs) → In b xs
-        in_taken [] zero b m = m
-        in_taken [] (suc j) b m = m
-        in_taken (x ∷ xs) zero b m = absurd m
-        in_taken (x ∷ xs) (suc j) b (inl e) = inl e
-        in_taken (x ∷ xs) (suc j) b (inr m) = inr (in_taken xs j b m)
-
         not_inner : (b : Chain) → In b (take i runs) → IsOneOf (inner_nodes b.steps) n → ⊥
         not_inner b m (p, at, e) =
             inner_off graph fit b.steps p (inner_of graph fit b.from b.steps (g.run b (in_taken runs i b m)).steps p at) q.seg (step_of graph c.from c.steps (g.run c on).steps q j).segment (λ r on_b same. off b m r q on_b j (sym same))
@@ -264,12 +228,6 @@ module _ (graph : GraphParts) (fit : IsConsistent graph) (old : Sketch) (h : IsL
       all_legal j [] can legal = legal
       all_legal j (c ∷ cs) can legal = all_legal (without_run j c) cs can.1 (one_off j c can.0)
 
-  node_from : (n : ℕ) → has_node nodes n ≡ true → IsOneOf nodes n
-  node_from n e = let at = any_at (λ (p : NodeId). eqb p.0 n) nodes e in (at.0, at.1, eqb-true at.0.0 n at.2)
-
-  node_true : (n : ℕ) → IsOneOf nodes n → has_node nodes n ≡ true
-  node_true n (m, i, e) = any_from (λ (p : NodeId). eqb p.0 n) nodes m i (eq-eqb m.0 n e)
-
   not_inner : (n : NodeId) → In n nodes → IsInnerOf runs n.0 → ⊥
   not_inner n i inner = true≢false (sym (inner_true runs n.0 inner) ∙ g.outer n i)
 
@@ -292,9 +250,9 @@ module _ (graph : GraphParts) (fit : IsConsistent graph) (old : Sketch) (h : IsL
 
       by_flags : (a b : Bool) → is_inner runs n ≡ a → has_node nodes n ≡ b → is_standing k2 n ≡ (not a && not b)
       by_flags true b inner node = low nodes k1 (low_on_runs runs old n (inner_from runs n inner))
-      by_flags false true inner node = low_each k1 nodes n (node_from n node)
+      by_flags false true inner node = low_each k1 nodes n (node_from nodes n node)
       by_flags false false inner node =
-          still_standing k1 nodes n (λ m. true≢false (sym (node_true n m) ∙ node)) ∙ beside_them.stand n (λ m. true≢false (sym (inner_true runs n m) ∙ inner)) ∙ all_stand n below
+          still_standing k1 nodes n (λ m. true≢false (sym (node_true nodes n m) ∙ node)) ∙ beside_them.stand n (λ m. true≢false (sym (inner_true runs n m) ∙ inner)) ∙ all_stand n below
 
   walk_then : (s : SegId) → walk_in k2 s ≡ cond (is_on_runs runs s.0) None (walk_in old s)
   walk_then s = ap (λ (os : List (Option PlainWalk)). get_or os s.0 None) (lift_walks k1 nodes) ∙ by_run (is_on_runs runs s.0) refl
@@ -475,7 +433,7 @@ module _ (graph : GraphParts) (fit : IsConsistent graph) (old : Sketch) (h : IsL
         })
 
     moved_low : (n : NodeId) → In n nodes → is_standing k n.0 ≡ false
-    moved_low n i = off_then n.0 (g.node n i) (ap₂ (λ x y. not x && not y) (g.outer n i) (node_true n.0 (n, i, refl)))
+    moved_low n i = off_then n.0 (g.node n i) (ap₂ (λ x y. not x && not y) (g.outer n i) (node_true nodes n.0 (n, i, refl)))
 
     inner_below : (c : Chain) → In c runs → (n : NodeId) → In n (inner_nodes c.steps) → n.0 < length graph.kinds
     inner_below c i n j = (inner_of graph fit c.from c.steps (g.run c i).steps n j).node
@@ -550,7 +508,7 @@ module _ (graph : GraphParts) (fit : IsConsistent graph) (old : Sketch) (h : IsL
 
         by_flags : (n : ℕ) → n < length graph.kinds → (x y : Bool) → is_inner runs n ≡ x → has_node nodes n ≡ y → ((is_standing k n ≡ true) × (point_of_node k n ≡ point_of_node old n)) ⊎ (IsPut n moved_of ⊎ IsPut n inner_of_all)
         by_flags n below true y inner node = inr (inr (put_inner n (inner_from runs n inner)))
-        by_flags n below false true inner node = inr (inl (put_moved n (node_from n node)))
+        by_flags n below false true inner node = inr (inl (put_moved n (node_from nodes n node)))
         by_flags n below false false inner node =
             let stands : is_standing k2 n ≡ true = flag_then n below ∙ ap₂ (λ x y. not x && not y) inner node in
             inl (ap (λ (fs : List Bool). get_or fs n false) a.stand ∙ stands, a.points n stands ∙ ap (λ (ps : List GridPoint). get_or ps n nowhere) same_points_then)

@@ -1,62 +1,35 @@
 -- Nodes that were taken off a whole drawing stand again, moved by a vector: what comes of it is what an attempt lays its runs on.
-use Rattle.std.proofs.Common.{◌≡◌, refl, sym, ◌∙◌, ap, ap₂, subst, ℕ, ◌+◌, ◌*◌, ◌<◌, ◌≤◌, Bool, true, false, not, cond, eqb, ◌&&◌, ◌||◌, List, [], ◌∷◌, length, fold, map, get_or, Option, Some, None, ◌⊎◌, inl, inr, arith, length-set, get_or-set_same, get_or-set_other}
-use Rattle.std.proofs.lemmas.Bool.{and_from, and_parts, cases_eq, cases_lt, eq-eqb, eqb-true, ne_eqb, not-true, true≢false}
-use Rattle.std.proofs.lemmas.List.{get_or_default, get_or_past}
-use Rattle.std.proofs.lemmas.List.Sums.{sum_by-cons}
-use Rattle.std.proofs.lemmas.List.FromFn.{get_or-map-range_with_len, length-map-range_with_len}
-use Rattle.std.specs.List.{list_all, list_any, range_with_len, sum_by}
-use Rattle.map_base.specs.declared.ids.NodeId.{NodeId}
-use Rattle.map_base.specs.declared.ids.SegId.{SegId}
-use Rattle.graph_core.specs.declared.parts.GraphParts.{GraphParts}
-use Rattle.graph_core.specs.Consistent.{IsConsistent}
-use Rattle.line_chains.specs.declared.chain.Chain.{Chain}
-use Rattle.octi_grid.specs.declared.dir.Dir.{Dir}
-use Rattle.octi_grid.specs.declared.point.GridPoint.{GridPoint}
-use Rattle.octi_grid.specs.Ways.{are_one, doubled, doubled_from, points_from, step_from}
-use Rattle.octi_grid.specs.Walks.{doubled_of, points_of, PlainWalk}
-use Rattle.octi_grid.specs.Legal.{is_among, is_even}
-use Rattle.octi_grid.proofs.Members.{among_at, among_from, any_at, any_from, are_one_from, one_point, same_test, In}
-use Rattle.grid_board.specs.Boards.{contains}
-use Rattle.segment_router.specs.Routes.{has_doubled}
+use Rattle.std.proofs.Common.{◌≡◌, refl, sym, ◌∙◌, ap, ap₂, subst, ℕ, ◌+◌, ◌*◌, ◌<◌, Bool, true, false, not, cond, eqb, ◌&&◌, ◌||◌, List, [], ◌∷◌, length, fold, map, get_or, Option, Some, None, ◌⊎◌, inl, inr, arith, length-set, get_or-set_same, get_or-set_other, zero, suc}
 use Rattle.segment_router.proofs.ClearNodes.{undoubled}
-use Rattle.segment_router.proofs.SettledLemmas.{nowhere}
-use Rattle.drawing_weights.specs.Scales.{apart_weight_by, Scale}
-use Rattle.run_laying.specs.Attempts.{attempted_on, comes_over_point, has_node, is_inner, may_move, may_move_to, stands_at, without_runs, Attempt}
-use Rattle.run_laying.specs.Drawings.{IsOnBoard}
-use Rattle.run_laying.specs.Laying.{board_of, standing_points, Sketch}
-use Rattle.run_laying.specs.Runs.{IsFitting}
-use Rattle.run_laying.specs.Sketches.{is_standing, lifted, point_of_node, stood, walk_in, IsEndOf, IsLegalSketch}
-use Rattle.run_laying.proofs.Attempted.{IsClearFor}
 use Rattle.run_laying.proofs.Begun.{begun_legal, in_range as in_numbers}
-use Rattle.run_laying.proofs.Kept.{clear_for, kept_sketch, IsKept}
-use Rattle.run_laying.proofs.RunFacts.{contains_in, in_round}
-use Rattle.run_laying.proofs.Shown.{in_standing, shown_node}
-use Rattle.run_laying.proofs.Whole.{whole_legal, IsComplete}
-use Rattle.drawing_search.specs.declared.group.Vector.{Vector}
-use Rattle.drawing_search.specs.Alike.{AreAlike}
-use Rattle.drawing_search.specs.Changes.{all_moved, has_room, is_open, moved_by, stood_at, AreApart, AreLiftable, CanStand, CanStandEach}
-use Rattle.drawing_search.specs.Gains.{apart_in, first_point, node_weight_in, segment_weight, sketch_weight, turns_in}
-use Rattle.drawing_search.specs.Tries.{point_then, stands_then, stays_standing, taken_off, walk_left, without}
-use Rattle.drawing_search.specs.Trying.{walks_of, IsWhole}
+use Rattle.drawing_search.proofs.Common.{all_moved, among_at, among_from, and_from, and_parts, any_at, any_from}
+use Rattle.drawing_search.proofs.Common.{apart_in, apart_weight_by, are_one, are_one_from, attempted_on, board_of}
+use Rattle.drawing_search.proofs.Common.{cases_eq, clear_for, comes_over_point, contains, contains_in, doubled}
+use Rattle.drawing_search.proofs.Common.{doubled_of, doubled_there, eq-eqb, first_point, get_or-map-range_with_len}
+use Rattle.drawing_search.proofs.Common.{get_or_default, has_doubled, has_node, has_room, in_round, in_standing}
+use Rattle.drawing_search.proofs.Common.{is_among, is_even, is_inner, is_open, is_standing, kept_sketch}
+use Rattle.drawing_search.proofs.Common.{length-map-range_with_len, lifted, list_all, list_any, may_move, may_move_to}
+use Rattle.drawing_search.proofs.Common.{moved_by, ne_eqb, node_weight_in, not-true, nowhere, one_point, point_of_node}
+use Rattle.drawing_search.proofs.Common.{point_then, points_of, range_with_len, same_test, segment_weight, shown_node}
+use Rattle.drawing_search.proofs.Common.{sketch_weight, standing_points, stands_at, stands_then, stays_standing, stood}
+use Rattle.drawing_search.proofs.Common.{stood_at, sum_by, sum_by-cons, taken_off, true≢false, turns_in, walk_in}
+use Rattle.drawing_search.proofs.Common.{walk_left, walks_of, whole_legal, without, without_runs, AreAlike, AreApart}
+use Rattle.drawing_search.proofs.Common.{AreLiftable, Attempt, CanStand, CanStandEach, Chain, GraphParts, GridPoint, In}
+use Rattle.drawing_search.proofs.Common.{IsClearFor, IsComplete, IsConsistent, IsEndOf, IsFitting, IsKept}
+use Rattle.drawing_search.proofs.Common.{IsLegalSketch, IsOnBoard, IsWhole, NodeId, PlainWalk, Scale, SegId, Sketch}
+use Rattle.drawing_search.proofs.Common.{Vector}
 use Rattle.drawing_search.proofs.Growing.{at_one, in_range, one_more, same_sum}
-use Rattle.drawing_search.proofs.Lifts.{from_map, group_of, in_mapped, IsGroup}
+use Rattle.drawing_search.proofs.Lifts.{group_of, IsGroup, node_from, node_true}
 use Rattle.drawing_search.proofs.OnWalks.{sketch_by_walks, without_is}
-use Rattle.drawing_search.proofs.PutBack.{can_stand_each, flag_back, flag_still, point_back, same_list, stood_bounds, stood_flags, stood_points, stood_walks, AreOf, ArePutOnce, IsPut}
-use Rattle.drawing_search.proofs.Takable.{liftable_each, walk_below}
+use Rattle.drawing_search.proofs.PutBack.{can_stand_each, flag_back, flag_still, point_back, same_list, stood_bounds, stood_flags, stood_points, stood_walks, AreOf, ArePutOnce, IsPut, point_still}
+use Rattle.drawing_search.proofs.Takable.{liftable_each, walk_below, from_map, in_mapped}
 use Rattle.drawing_search.proofs.TakenBack.{lift_bounds, lift_flags, lift_points, lift_walks, low_each, still_standing, IsOneOf}
-
--- a point that a walk comes over is one of its doubled points
-redoubled : (q p : GridPoint) (ds : List Dir) → In q (points_from p ds) → In (doubled q) (doubled_from p ds)
-redoubled q p [] (inl e) = inl (ap doubled e)
-redoubled q p [] (inr m) = absurd m
-redoubled q p (d ∷ ds) (inl e) = inl (ap doubled e)
-redoubled q p (d ∷ ds) (inr m) = inr (inr (redoubled q (step_from p d) ds m))
 
 over_or_not : (p : GridPoint) (o : Option PlainWalk) → has_doubled (doubled p) o ≡ comes_over_point p o
 over_or_not p None = refl
 over_or_not p (Some w) =
     same_test (is_among (doubled_of w) (doubled p)) (is_among (points_of w) p) (λ e. among_from (points_of w) p (undoubled p w.start w.steps (among_at (doubled_of w) (doubled p) e)))
-    (λ e. among_from (doubled_of w) (doubled p) (redoubled p w.start w.steps (among_at (points_of w) p e)))
+    (λ e. among_from (doubled_of w) (doubled p) (doubled_there p w.start w.steps (among_at (points_of w) p e)))
 
 over_any : (p : GridPoint) (os : List (Option PlainWalk)) → list_any (has_doubled (doubled p)) os ≡ list_any (comes_over_point p) os
 over_any p [] = refl
@@ -69,6 +42,11 @@ all_mapped test f other (x ∷ xs) same = ap₂ (λ b c. b && c) (same x (inl re
 and_true : (b : Bool) → (b && true) ≡ b
 and_true true = refl
 and_true false = refl
+
+raised_below : (flags : List Bool) (n : ℕ) → get_or flags n false ≡ true → n < length flags
+raised_below [] n e = absurd (true≢false (sym e))
+raised_below (b ∷ bs) zero e = omega arith
+raised_below (b ∷ bs) (suc n) e = omega (arith, raised_below bs n e)
 
 -- a drawing weighs more by the distance of a node that stands
 stood_weighs : (scale : Scale) (graph : GraphParts) (first : List GridPoint) (k : Sketch) (n : NodeId) (p : GridPoint) → length k.points ≡ length graph.kinds → length k.stand ≡ length graph.kinds → n.0 < length graph.kinds → is_standing k n.0 ≡ false
@@ -162,11 +140,7 @@ module _ (graph : GraphParts) (fit : IsConsistent graph) (whole old : Sketch) (h
   old_points = off.points_each ∙ h.points_each
 
   old_below : (n : ℕ) → is_standing old n ≡ true → n < length graph.kinds
-  old_below n e = by_order (cases_lt n (length graph.kinds))
-    where
-      by_order : (n < length graph.kinds) ⊎ (length graph.kinds ≤ n) → n < length graph.kinds
-      by_order (inl less) = less
-      by_order (inr past) = absurd (true≢false (sym e ∙ get_or_past old.stand n false (omega (arith, past, old_flags))))
+  old_below n e = omega (arith, raised_below old.stand n e, old_flags)
 
   old_point : (n : ℕ) → is_standing old n ≡ true → point_of_node old n ≡ point_of_node whole n
   old_point n e = off.points n (ap (λ (fs : List Bool). get_or fs n false) (sym off.stand) ∙ e)
@@ -186,14 +160,11 @@ module _ (graph : GraphParts) (fit : IsConsistent graph) (whole old : Sketch) (h
   comes_there : (n : ℕ) → n < length graph.kinds → has_node nodes n ≡ true → point_of_node begun_on n ≡ moved_by v (point_of_node whole n)
   comes_there n below e = begun_point n below ∙ ap (λ b. cond b (moved_by v (point_of_node whole n)) (point_of_node whole n)) e
 
-  node_true : (n : NodeId) → In n nodes → has_node nodes n.0 ≡ true
-  node_true n i = any_from (λ (p : NodeId). eqb p.0 n.0) nodes n i (eq-eqb n.0 n.0 refl)
-
-  node_from : (n : ℕ) → has_node nodes n ≡ true → IsOneOf nodes n
-  node_from n e = let at = any_at (λ (p : NodeId). eqb p.0 n) nodes e in (at.0, at.1, eqb-true at.0.0 n at.2)
+  node_there : (n : NodeId) → In n nodes → has_node nodes n.0 ≡ true
+  node_there n i = node_true nodes n.0 (n, i, refl)
 
   outer : (n : ℕ) → has_node nodes n ≡ true → is_inner runs n ≡ false
-  outer n e = let at = node_from n e in ap (is_inner runs) (sym at.2) ∙ g.outer at.0 at.1
+  outer n e = let at = node_from nodes n e in ap (is_inner runs) (sym at.2) ∙ g.outer at.0 at.1
 
   -- ---- they have room where they may move
 
@@ -234,7 +205,7 @@ module _ (graph : GraphParts) (fit : IsConsistent graph) (whole old : Sketch) (h
   pub same_room : has_room old v moved_from ≡ may_move (without graph whole attempt) nodes
   same_room =
       all_mapped (λ (m : NodeId × GridPoint). is_open old (moved_by v m.1)) (λ (n : NodeId). (n, point_of_node whole n.0)) (λ (n : NodeId). may_move_to begun_on nodes (point_of_node begun_on n.0)) nodes
-      (λ n i. ap (is_open old) (sym (comes_there n.0 (g.node n i) (node_true n i))) ∙ same_open (point_of_node begun_on n.0))
+      (λ n i. ap (is_open old) (sym (comes_there n.0 (g.node n i) (node_there n i))) ∙ same_open (point_of_node begun_on n.0))
 
   -- ---- and stand there then
 
@@ -253,14 +224,10 @@ module _ (graph : GraphParts) (fit : IsConsistent graph) (whole old : Sketch) (h
       let m = from_map (λ (m : NodeId × GridPoint). (m.0, moved_by v m.1)) moved_from p i in
       let q = from_map (λ (q : NodeId). (q, point_of_node whole q.0)) nodes m.0 m.1 in
       subst (λ (x : NodeId × GridPoint). x.1 ≡ point_of_node begun_on x.0.0) (sym m.2)
-      (subst (λ (x : NodeId × GridPoint). moved_by v x.1 ≡ point_of_node begun_on x.0.0) (sym q.2) (sym (comes_there q.0.0 (g.node q.0 q.1) (node_true q.0 q.1))))
+      (subst (λ (x : NodeId × GridPoint). moved_by v x.1 ≡ point_of_node begun_on x.0.0) (sym q.2) (sym (comes_there q.0.0 (g.node q.0 q.1) (node_there q.0 q.1))))
 
   begun_below : (n : ℕ) → is_standing begun_on n ≡ true → n < length graph.kinds
-  begun_below n e = by_order (cases_lt n (length graph.kinds))
-    where
-      by_order : (n < length graph.kinds) ⊎ (length graph.kinds ≤ n) → n < length graph.kinds
-      by_order (inl less) = less
-      by_order (inr past) = absurd (true≢false (sym e ∙ get_or_past begun_on.stand n false (omega (arith, past, length-map-range_with_len (stands_then whole runs) 0 (length graph.kinds)))))
+  begun_below n e = omega (arith, raised_below begun_on.stand n e, length-map-range_with_len (stands_then whole runs) 0 (length graph.kinds))
 
   pub stood_alike : AreAlike (fold stood_at old (all_moved v moved_from)) (without graph whole attempt)
   stood_alike = record {
@@ -275,17 +242,17 @@ module _ (graph : GraphParts) (fit : IsConsistent graph) (whole old : Sketch) (h
     where
       flag : (n : ℕ) → n < length graph.kinds → (b : Bool) → has_node nodes n ≡ b → is_standing stood_again n ≡ is_standing begun_on n
       flag n below true e =
-          flag_back old (all_moved v moved_from) n (omega (arith, below, old_flags)) (inr (put_to n (node_from n e)))
+          flag_back old (all_moved v moved_from) n (omega (arith, below, old_flags)) (inr (put_to n (node_from nodes n e)))
           ∙ sym (begun_flag n below ∙ ap₂ (λ x y. x && not y) (all_stand n below) (outer n e))
       flag n below false e =
-          flag_still old (all_moved v moved_from) n (λ put. let at = put_from n put in true≢false (sym (ap (has_node nodes) (sym at.2) ∙ node_true at.0 at.1) ∙ e))
+          flag_still old (all_moved v moved_from) n (λ put. let at = put_from n put in true≢false (sym (ap (has_node nodes) (sym at.2) ∙ node_there at.0 at.1) ∙ e))
           ∙ old_flag n below
           ∙ ap (λ c. is_standing whole n && (not (is_inner runs n) && not c)) e
           ∙ ap (λ c. is_standing whole n && c) (and_true (not (is_inner runs n)))
           ∙ sym (begun_flag n below)
 
       point : (n : ℕ) → is_standing begun_on n ≡ true → (b : Bool) → has_node nodes n ≡ b → point_of_node stood_again n ≡ point_of_node begun_on n
-      point n stands true e = let below = begun_below n stands in point_back begun_on old (all_moved v moved_from) n are_of (omega (arith, below, old_points)) (inr (put_to n (node_from n e)))
+      point n stands true e = let below = begun_below n stands in point_back begun_on old (all_moved v moved_from) n are_of (omega (arith, below, old_points)) (inr (put_to n (node_from nodes n e)))
       point n stands false e =
           let below = begun_below n stands in
           let flags = and_parts (is_standing whole n) (not (is_inner runs n)) (sym (begun_flag n below) ∙ stands) in
@@ -313,12 +280,12 @@ module _ (graph : GraphParts) (fit : IsConsistent graph) (whole old : Sketch) (h
       of_node : (n : NodeId) → In n nodes → CanStand old n (moved_by v (point_of_node whole n.0))
       of_node n i =
           let below = g.node n i in
-          let there = comes_there n.0 below (node_true n i) in
-          let stands : is_standing begun_on n.0 ≡ true = begun_flag n.0 below ∙ ap₂ (λ x y. x && not y) (all_stand n.0 below) (outer n.0 (node_true n i)) in
+          let there = comes_there n.0 below (node_there n i) in
+          let stands : is_standing begun_on n.0 ≡ true = begun_flag n.0 below ∙ ap₂ (λ x y. x && not y) (all_stand n.0 below) (outer n.0 (node_there n i)) in
           record {
             node = omega (arith, below, old_points);
             flag = omega (arith, below, old_flags);
-            lifted = old_flag n.0 below ∙ ap₂ (λ x y. x && (not (is_inner runs n.0) && not y)) (all_stand n.0 below) (node_true n i) ∙ ap (λ x. not x && false) (outer n.0 (node_true n i));
+            lifted = old_flag n.0 below ∙ ap₂ (λ x y. x && (not (is_inner runs n.0) && not y)) (all_stand n.0 below) (node_there n i) ∙ ap (λ x. not x && false) (outer n.0 (node_there n i));
             inside = ap₂ (λ b q. contains b q) off.bounds (sym there) ∙ legal.inside n.0 stands;
             even = ap is_even (sym there) ∙ legal.even n.0 stands;
           }
@@ -362,14 +329,14 @@ module _ (graph : GraphParts) (fit : IsConsistent graph) (whole old : Sketch) (h
     }
       where
         not_put : (n : ℕ) → has_node nodes n ≡ false → IsPut n (all_moved v moved_from) → ⊥
-        not_put n e put = let at = put_from n put in true≢false (sym (ap (has_node nodes) (sym at.2) ∙ node_true at.0 at.1) ∙ e)
+        not_put n e put = let at = put_from n put in true≢false (sym (ap (has_node nodes) (sym at.2) ∙ node_there at.0 at.1) ∙ e)
 
         not_one : (n : ℕ) → has_node nodes n ≡ false → IsOneOf nodes n → ⊥
-        not_one n e (m, i, f) = true≢false (sym (ap (has_node nodes) (sym f) ∙ node_true m i) ∙ e)
+        not_one n e (m, i, f) = true≢false (sym (ap (has_node nodes) (sym f) ∙ node_there m i) ∙ e)
 
         flag : (n : ℕ) → n < length graph.kinds → (b : Bool) → has_node nodes n ≡ b → is_standing (fold lifted new nodes) n ≡ is_standing old n
         flag n below true e =
-            low_each new nodes n (node_from n e) ∙ sym (old_flag n below ∙ ap₂ (λ x y. x && (not (is_inner runs n) && not y)) (all_stand n below) e ∙ ap (λ x. not x && false) (outer n e))
+            low_each new nodes n (node_from nodes n e) ∙ sym (old_flag n below ∙ ap₂ (λ x y. x && (not (is_inner runs n) && not y)) (all_stand n below) e ∙ ap (λ x. not x && false) (outer n e))
         flag n below false e =
             still_standing new nodes n (not_one n e) ∙ ap (λ (fs : List Bool). get_or fs n false) same.stand ∙ flag_still old (all_moved v moved_from) n (not_put n e)
 
@@ -382,7 +349,3 @@ module _ (graph : GraphParts) (fit : IsConsistent graph) (whole old : Sketch) (h
             ap (λ (ps : List GridPoint). get_or ps n nowhere) (lift_points new nodes)
             ∙ same.points n stands
             ∙ point_still old (all_moved v moved_from) n (not_put n free)
-          where
-            point_still : (j : Sketch) (ms : List (NodeId × GridPoint)) (n : ℕ) → (IsPut n ms → ⊥) → point_of_node (fold stood_at j ms) n ≡ point_of_node j n
-            point_still j [] n out = refl
-            point_still j (m ∷ ms) n out = point_still (stood_at j m) ms n (λ (p, i, same). out (p, inr i, same)) ∙ get_or-set_other j.points m.0.0 n m.1 nowhere (λ e. out (m, inl refl, sym e))

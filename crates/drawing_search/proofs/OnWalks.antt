@@ -1,42 +1,24 @@
 -- Attempts on whole drawings in the making are those on their walks.
 use Rattle.std.proofs.Common.{◌≡◌, refl, sym, ◌∙◌, ap, ap₂, subst, ℕ, zero, suc, ◌+◌, ◌-◌, ◌*◌, ◌<◌, Bool, true, false, cond, not, ◌&&◌, nat_le, nat_lt, List, [], ◌∷◌, length, map, get_or, replicate, slice_get, Option, Some, None, inl, inr, arith}
-use Rattle.std.proofs.lemmas.List.{get_or-map, get_or-replicate}
 use Rattle.std.proofs.lemmas.Option.{slice_get-get_or}
-use Rattle.std.proofs.lemmas.List.FromFn.{get_or-map-range_with_len, length-map-range_with_len}
-use Rattle.std.specs.List.{filter_map, range_with_len, sum_by}
-use Rattle.map_base.specs.declared.ids.NodeId.{NodeId}
-use Rattle.map_base.specs.declared.ids.SegId.{SegId}
-use Rattle.graph_core.specs.declared.parts.GraphParts.{GraphParts}
-use Rattle.graph_core.specs.Consistent.{IsConsistent}
-use Rattle.octi_grid.specs.declared.dir.Dir.{Dir}
-use Rattle.octi_grid.specs.declared.point.GridPoint.{GridPoint}
-use Rattle.octi_grid.specs.Legal.{legs_of, port_of, port_where, puts_by, Leg, Put}
-use Rattle.octi_grid.specs.Ways.{after}
-use Rattle.octi_grid.specs.Walks.{PlainWalk}
-use Rattle.octi_grid.proofs.Members.{from_flat_map, In}
-use Rattle.grid_board.specs.declared.bounds.Bounds.{Bounds}
-use Rattle.segment_router.specs.Routes.{ends_of, port_at_node, port_by}
-use Rattle.segment_router.proofs.SettledLemmas.{nowhere}
-use Rattle.drawing_weights.specs.Drawn.{points_all, IsDrawn}
-use Rattle.drawing_weights.specs.Scales.{apart_weight_by, node_weight_by, turn_at, turn_over, turns_over, walk_weight_by, weight_by, Scale}
-use Rattle.drawing_weights.specs.Weights.{point_of}
+use Rattle.segment_router.specs.Routes.{ends_of}
 use Rattle.drawing_weights.proofs.DrawnFacts.{leg_place, put_at, PutAt}
-use Rattle.run_laying.specs.Attempts.{attempted_on, has_node, if_lighter, improving, is_inner, is_on_runs, point_in_attempt, walk_beside, walks_in, without_runs, Attempt}
-use Rattle.run_laying.specs.Drawings.{IsOnBoard}
-use Rattle.run_laying.specs.Laying.{board_under, Sketch}
-use Rattle.run_laying.specs.Runs.{IsFitting}
-use Rattle.run_laying.specs.Searches.{after_attempt, after_pass, found_with, Found}
-use Rattle.run_laying.specs.Sketches.{is_standing, point_of_node, walk_in, IsLegalSketch}
-use Rattle.run_laying.proofs.Kept.{kept_sketch}
-use Rattle.run_laying.proofs.Whole.{whole_legal, IsComplete}
-use Rattle.drawing_search.specs.Gains.{apart_in, node_weight_in, pairs_at, segment_weight, sketch_weight, turn_in, turns_in, walk_weight_if}
-use Rattle.drawing_search.specs.Shown.{whole_sketch}
-use Rattle.drawing_search.specs.Tries.{after_tries, after_try, if_below, point_then, stands_then, tried, walk_left, with_tried, without, Tried}
-use Rattle.drawing_search.specs.Trying.{walks_of}
+use Rattle.drawing_search.proofs.Common.{after, after_attempt, after_pass, after_tries, after_try, apart_in}
+use Rattle.drawing_search.proofs.Common.{apart_weight_by, attempted_on, board_under, filter_map, found_with}
+use Rattle.drawing_search.proofs.Common.{from_flat_map, get_or-map, get_or-map-range_with_len, get_or-replicate}
+use Rattle.drawing_search.proofs.Common.{has_node, if_below, if_lighter, improving, is_inner, is_on_runs, is_standing}
+use Rattle.drawing_search.proofs.Common.{kept_sketch, legs_of, length-map-range_with_len, node_weight_by}
+use Rattle.drawing_search.proofs.Common.{node_weight_in, nowhere, pairs_at, point_in_attempt, point_of, point_of_node}
+use Rattle.drawing_search.proofs.Common.{point_then, points_all, port_at_node, port_by, port_of, port_where, puts_by}
+use Rattle.drawing_search.proofs.Common.{range_with_len, segment_weight, sketch_weight, stands_then, sum_by, tried}
+use Rattle.drawing_search.proofs.Common.{turn_at, turn_in, turn_over, turns_in, turns_over, walk_beside, walk_in}
+use Rattle.drawing_search.proofs.Common.{walk_left, walk_weight_by, walk_weight_if, walks_in, walks_of, weight_by}
+use Rattle.drawing_search.proofs.Common.{whole_legal, whole_sketch, with_tried, without, without_runs, Attempt, Bounds}
+use Rattle.drawing_search.proofs.Common.{Dir, Found, GraphParts, GridPoint, In, IsComplete, IsConsistent, IsDrawn}
+use Rattle.drawing_search.proofs.Common.{IsFitting, IsLegalSketch, IsOnBoard, Leg, NodeId, PlainWalk, Put, Scale, SegId}
+use Rattle.drawing_search.proofs.Common.{Sketch, Tried}
 use Rattle.drawing_search.proofs.FieldFacts.{pair_below}
 use Rattle.drawing_search.proofs.Growing.{in_range, same_sum, sum_map}
-
--- ---- lists of numbers and their values
 
 -- what two functions give at all numbers of a range
 pub same_map : {X : Type 0} (f g : ℕ → X) (a n : ℕ) → ((i : ℕ) → i < a + n → f i ≡ g i) → map f (range_with_len a n) ≡ map g (range_with_len a n)
@@ -83,12 +65,13 @@ module _ (graph : GraphParts) (fit : IsConsistent graph) (bounds : Bounds) (ws :
   -- what an attempt takes away is the same
   pub without_is : (a : Attempt) → without graph (whole_sketch bounds (points_all graph ws) ws) a ≡ without_runs graph bounds ws a
   without_is a =
-      ap (λ (ps : List GridPoint). (let j : Sketch = record { bounds = bounds; points = ps; stand = map (stands_then k a.runs) (range_with_len 0 (length graph.kinds)); walks = map (walk_left k a.runs) (range_with_len 0 (length graph.ends)) } in j))
-      (same_map (point_then k a) (point_in_attempt graph ws a) 0 (length graph.kinds) (λ n h. point n (omega (arith, h))))
-      ∙ ap (λ (fs : List Bool). (let j : Sketch = record { bounds = bounds; points = map (point_in_attempt graph ws a) (range_with_len 0 (length graph.kinds)); stand = fs; walks = map (walk_left k a.runs) (range_with_len 0 (length graph.ends)) } in j))
-      (same_map (stands_then k a.runs) (λ n. not (is_inner a.runs n)) 0 (length graph.kinds) (λ n h. ap (λ b. b && not (is_inner a.runs n)) (whole_stands n (omega (arith, h)))))
-      ∙ ap (λ (os : List (Option PlainWalk)). (let j : Sketch = record { bounds = bounds; points = map (point_in_attempt graph ws a) (range_with_len 0 (length graph.kinds)); stand = map (λ n. not (is_inner a.runs n)) (range_with_len 0 (length graph.kinds)); walks = os } in j))
-      (same_map (walk_left k a.runs) (walk_beside ws a.runs) 0 (length graph.ends) (λ s h. ap (λ (o : Option PlainWalk). cond (is_on_runs a.runs s) None o) (whole_walk s (record { start = nowhere; steps = [] }) (omega (arith, h)))))
+      λ i. record {
+        bounds = bounds;
+        points = same_map (point_then k a) (point_in_attempt graph ws a) 0 (length graph.kinds) (λ n h. point n (omega (arith, h))) i;
+        stand = same_map (stands_then k a.runs) (λ n. not (is_inner a.runs n)) 0 (length graph.kinds) (λ n h. ap (λ b. b && not (is_inner a.runs n)) (whole_stands n (omega (arith, h)))) i;
+        walks = same_map (walk_left k a.runs) (walk_beside ws a.runs) 0 (length graph.ends)
+            (λ s h. ap (λ (o : Option PlainWalk). cond (is_on_runs a.runs s) None o) (whole_walk s (record { start = nowhere; steps = [] }) (omega (arith, h)))) i;
+      }
     where
       point : (n : ℕ) → n < length graph.kinds → point_then k a n ≡ point_in_attempt graph ws a n
       point n h = ap (λ (p : GridPoint). cond (has_node a.nodes n) (after p (replicate a.count a.dir)) p) (whole_point n h)
@@ -195,11 +178,7 @@ module _ (graph : GraphParts) (fit : IsConsistent graph) (k : Sketch) (h : IsLeg
 
   pub sketch_by_walks : k ≡ whole_sketch k.bounds (points_all graph (walks_of k)) (walks_of k)
   sketch_by_walks =
-      ap (λ (ps : List GridPoint). (let j : Sketch = record { bounds = k.bounds; points = ps; stand = k.stand; walks = k.walks } in j)) points_are
-      ∙ ap (λ (fs : List Bool). (let j : Sketch = record { bounds = k.bounds; points = points_all graph kept; stand = fs; walks = k.walks } in j)) stand_is
-      ∙ ap (λ (os : List (Option PlainWalk)). (let j : Sketch = record { bounds = k.bounds; points = points_all graph kept; stand = replicate (length (points_all graph kept)) true; walks = os } in j)) (sym walks_are)
-
--- ---- attempts
+      λ i. record { bounds = k.bounds; points = points_are i; stand = stand_is i; walks = sym walks_are i }
 
 -- an attempt on a whole drawing gives the walks that it gives on the walks
 pub tried_on_walks : (graph : GraphParts) → IsConsistent graph → (scale : Scale) (first : List PlainWalk) (bounds : Bounds) (ws : List PlainWalk) (a : Attempt) → IsOnBoard graph bounds ws → IsFitting graph a
@@ -224,8 +203,6 @@ tried_on_walks graph fit scale first bounds ws a on_board fits =
         by_test : (t : Bool) → walks_in (cond t (Some new) None) ≡ cond t (Some (walks_of new)) None
         by_test true = refl
         by_test false = refl
-
--- ---- attempts one after another
 
 -- a whole legal drawing on a board
 pub record IsGood (graph : GraphParts) (bounds : Bounds) (k : Sketch) : Type 0 where

@@ -1,42 +1,19 @@
 -- What the walk of a run weighs, cut into pieces: its steps, and a price for each turn of 45 degrees, but for turns at nodes
 -- that no line goes over.
-use Rattle.std.proofs.Common.{◌≡◌, refl, sym, ◌∙◌, ap, ap₂, subst, ℕ, suc, ◌+◌, ◌*◌, ◌<◌, ◌≤◌, Bool, true, false, cond, eqb, ◌||◌, List, [], ◌∷◌, length, filter, get_or, Option, Some, None, option_map, slice_get, ◌⊎◌, inl, inr, arith, get_or-set_same, length-set}
-use Rattle.std.proofs.Math.Nat.{mul-le-mul_left, mul-le-mul_right}
-use Rattle.std.proofs.lemmas.Bool.{cases_Bool, eq-eqb, or_right}
-use Rattle.std.proofs.lemmas.List.Sums.{sum_by-cons}
-use Rattle.std.specs.List.{sum_by}
-use Rattle.map_base.specs.declared.ids.NodeId.{NodeId}
-use Rattle.map_base.specs.declared.ids.SegId.{SegId}
-use Rattle.graph_core.specs.declared.parts.GraphParts.{GraphParts}
-use Rattle.graph_core.specs.Consistent.{AreEnds, IsConsistent}
-use Rattle.line_chains.specs.declared.chain.ChainStep.{ChainStep}
+use Rattle.std.proofs.Common.{◌≡◌, refl, sym, ◌∙◌, ap, ap₂, ℕ, suc, ◌+◌, ◌*◌, ◌<◌, ◌≤◌, Bool, true, false, cond, eqb, ◌||◌, List, [], ◌∷◌, length, filter, Option, Some, None, option_map, slice_get, ◌⊎◌, inl, inr, arith, get_or-set_same, length-set}
 use Rattle.line_chains.specs.Chains.{ends_of}
-use Rattle.octi_grid.specs.declared.dir.Dir.{Dir}
-use Rattle.octi_grid.specs.declared.point.GridPoint.{GridPoint}
-use Rattle.octi_grid.specs.Costs.{turn_between}
-use Rattle.octi_grid.specs.Ways.{reverse_of}
-use Rattle.octi_grid.specs.Walks.{end_port, last_of, start_port, PlainWalk}
-use Rattle.octi_grid.proofs.CostLemmas.{turn_small}
-use Rattle.octi_grid.proofs.Members.{In}
-use Rattle.segment_router.specs.Routes.{port_at_node, port_by}
-use Rattle.drawing_weights.specs.Scales.{turn_over, walk_weight_by, Scale}
-use Rattle.drawing_weights.specs.Weights.{turns_of}
-use Rattle.run_laying.specs.Attempts.{inner_nodes}
-use Rattle.run_laying.specs.Laying.{board_under, from_low, with_piece, with_pieces, Sketch}
-use Rattle.run_laying.specs.Pieces.{reversed_walk}
-use Rattle.run_laying.specs.Runs.{AreOnce, AreSteps, LeadsTo, MeetAlone}
-use Rattle.run_laying.specs.Sketches.{walk_in}
-use Rattle.run_laying.proofs.Cuts.{first_start_port}
-use Rattle.run_laying.proofs.LaidRuns.{same_walk, IsCut}
-use Rattle.run_laying.proofs.RunFacts.{end_below, leads_to, once_first}
-use Rattle.run_laying.proofs.Reversed.{twice}
-use Rattle.run_laying.proofs.Turned.{port_from, port_to, turned_of}
-use Rattle.drawing_search.specs.Gains.{has_segment, pairs_at, segment_weight, steps_gain, turn_if, turn_in, turns_from, walk_weight_if}
-use Rattle.drawing_search.specs.Least.{free_nodes, is_free_node}
-use Rattle.drawing_search.proofs.FieldFacts.{pair_joined, IsJoined}
-use Rattle.drawing_search.proofs.TurnSums.{cost_parts, steps_append, steps_back, steps_cost, turn_over_cut, turn_same_back, turn_turned, turns_append, turns_back}
-
--- ---- the walks of segments
+use Rattle.drawing_search.proofs.Common.{board_under, cases_Bool, end_below, end_port, eq-eqb, first_leads}
+use Rattle.drawing_search.proofs.Common.{first_start_port, free_nodes, from_low, has_segment, inner_nodes, is_free_node}
+use Rattle.drawing_search.proofs.Common.{last_of, leads_to, mul-le-mul_left, mul-le-mul_right, no_loop, once_first}
+use Rattle.drawing_search.proofs.Common.{or_right, pairs_at, port_at_node, port_by, port_from, port_to, reverse_of}
+use Rattle.drawing_search.proofs.Common.{reversed_walk, same_walk, segment_weight, start_port, steps_gain, sum_by}
+use Rattle.drawing_search.proofs.Common.{sum_by-cons, turn_back, turn_between, turn_if, turn_in, turn_over, turn_small}
+use Rattle.drawing_search.proofs.Common.{turned_of, turns_from, turns_of, twice, walk_in, walk_weight_by}
+use Rattle.drawing_search.proofs.Common.{walk_weight_if, with_piece, with_pieces, AreOnce, AreSteps, ChainStep, Dir}
+use Rattle.drawing_search.proofs.Common.{GraphParts, GridPoint, In, IsConsistent, IsCut, LeadsTo, MeetAlone, NodeId}
+use Rattle.drawing_search.proofs.Common.{PlainWalk, Scale, SegId, Sketch}
+use Rattle.drawing_search.proofs.FieldFacts.{pair_joined, IsJoined, of_two}
+use Rattle.drawing_search.proofs.StraightWays.{cost_parts, steps_append, steps_back, steps_cost, turn_over_cut, turn_same_back, turns_append, turns_back}
 
 -- each segment of steps has its piece
 abbrev pub HavePieces : GraphParts → NodeId → List ChainStep → List PlainWalk → Sketch → Type 0
@@ -78,38 +55,13 @@ IsPrice scale graph p ts = (p ≤ 1 + scale.turns) × ((m : NodeId) → In m (in
 
 -- ---- turns at nodes between steps
 
-of_two : (graph : GraphParts) (a : SegId) (m : NodeId) (b : SegId) → MeetAlone graph a m b → (s : SegId) → In s (get_or graph.rounds m.0 []) → (s ≡ a) ⊎ (s ≡ b)
-of_two graph a m b (inl e) s i = which (subst (λ (v : List SegId). In s v) e i)
-  where
-    which : In s (a ∷ b ∷ []) → (s ≡ a) ⊎ (s ≡ b)
-    which (inl f) = inl f
-    which (inr (inl f)) = inr f
-    which (inr (inr n)) = absurd n
-of_two graph a m b (inr e) s i = which (subst (λ (v : List SegId). In s v) e i)
-  where
-    which : In s (b ∷ a ∷ []) → (s ≡ a) ⊎ (s ≡ b)
-    which (inl f) = inr f
-    which (inr (inl f)) = inl f
-    which (inr (inr n)) = absurd n
-
 pub false_first : (a b : Bool) → (a || b) ≡ false → a ≡ false
 false_first true b e = cc
 false_first false b e = refl
 
-pub first_leads : (graph : GraphParts) (n : NodeId) (u : ChainStep) (us : List ChainStep) → AreSteps graph n (u ∷ us) → (u.seg.0 < length graph.ends) × LeadsTo graph n u
-first_leads graph n u [] steps = (steps.0, steps.1)
-first_leads graph n u (w ∷ ws) steps = (steps.0, steps.1)
-
 -- the ends of a segment are different nodes
 pub leads_apart : (graph : GraphParts) → IsConsistent graph → (n : NodeId) (t : ChainStep) → t.seg.0 < length graph.ends → LeadsTo graph n t → n.0 ≡ t.to.0 → ⊥
-leads_apart graph fit n t below leads same = by_way leads
-  where
-    are : AreEnds (length graph.kinds) (ends_of graph t.seg)
-    are = fit.ends t.seg.0 (record { 0 = 0 }, record { 0 = 0 }) below
-
-    by_way : LeadsTo graph n t → ⊥
-    by_way (inl e) = omega (arith, are.0, same, ap (λ (p : NodeId × NodeId). p.0.0) e, ap (λ (p : NodeId × NodeId). p.1.0) e)
-    by_way (inr e) = omega (arith, are.0, same, ap (λ (p : NodeId × NodeId). p.0.0) e, ap (λ (p : NodeId × NodeId). p.1.0) e)
+leads_apart graph fit n t below leads same = no_loop graph fit n t below leads (sym same)
 
 -- the first piece of a walk leaves as the walk does
 first_of_cut : (w x : PlainWalk) (xs : List PlainWalk) → IsCut w (x ∷ xs) → slice_get x.steps 0 ≡ slice_get w.steps 0
@@ -135,16 +87,13 @@ module _ (graph : GraphParts) (fit : IsConsistent graph) (k : Sketch) (scale : S
     over_back None None = refl
     over_back None (Some e) = refl
     over_back (Some d) None = refl
-    over_back (Some d) (Some e) = turn_same_back e d ∙ turn_turned e d
+    over_back (Some d) (Some e) = turn_same_back e d ∙ turn_back e d
 
     one_turn : (pair : SegId × SegId) → In pair (pairs_at graph t.to.0) → turn_if graph k t.to.0 t.seg pair ≡ turn_over_cut (last_of v.steps) (slice_get x.steps 0)
-    one_turn pair i = by_first (which pair.0 joined.lesser) (which pair.1 joined.greater)
+    one_turn pair i = by_first (of_two graph t.seg t.to u.seg alone pair.0 joined.lesser) (of_two graph t.seg t.to u.seg alone pair.1 joined.greater)
       where
         joined : IsJoined graph t.to.0 pair
         joined = pair_joined graph fit t.to.0 node pair i
-
-        which : (s : SegId) → In s (get_or graph.rounds t.to.0 []) → (s ≡ t.seg) ⊎ (s ≡ u.seg)
-        which s m = of_two graph t.seg t.to u.seg alone s m
 
         counted : has_segment t.seg pair ≡ true → turn_in graph k t.to.0 pair ≡ turn_over_cut (last_of v.steps) (slice_get x.steps 0) → turn_if graph k t.to.0 t.seg pair ≡ turn_over_cut (last_of v.steps) (slice_get x.steps 0)
         counted e turn = ap (λ b. cond b (turn_in graph k t.to.0 pair) 0) e ∙ turn

@@ -1,17 +1,8 @@
 -- What was taken off a drawing is put back: nodes and walks, each where it was.
-use Rattle.std.proofs.Common.{◌≡◌, refl, sym, ◌∙◌, ap, ap₂, ℕ, suc, ◌<◌, Bool, true, false, List, [], ◌∷◌, length, fold, get_or, set, Option, Some, None, ◌⊎◌, inl, inr, arith, length-set, get_or-set_same, get_or-set_other}
-use Rattle.std.proofs.lemmas.Bool.{cases_eq}
-use Rattle.map_base.specs.declared.ids.NodeId.{NodeId}
-use Rattle.map_base.specs.declared.ids.SegId.{SegId}
-use Rattle.octi_grid.specs.declared.point.GridPoint.{GridPoint}
-use Rattle.octi_grid.specs.Walks.{PlainWalk}
-use Rattle.octi_grid.proofs.Members.{In}
-use Rattle.grid_board.specs.declared.bounds.Bounds.{Bounds}
-use Rattle.segment_router.proofs.SettledLemmas.{nowhere}
-use Rattle.run_laying.specs.Laying.{Sketch}
-use Rattle.run_laying.specs.Sketches.{is_standing, point_of_node, walk_in}
-use Rattle.drawing_search.specs.Changes.{stood_at, walked_by, CanStand, CanStandEach, CanWalk, CanWalkEach}
-use Rattle.drawing_search.specs.Lifting.{put_back}
+use Rattle.std.proofs.Common.{◌≡◌, refl, sym, ◌∙◌, ap, ap₂, ℕ, suc, ◌<◌, true, false, List, [], ◌∷◌, length, fold, get_or, set, Option, Some, None, ◌⊎◌, inl, inr, arith, length-set, get_or-set_same, get_or-set_other}
+use Rattle.drawing_search.proofs.Common.{cases_eq, is_standing, nowhere, point_of_node, put_back, stood_at, walk_in}
+use Rattle.drawing_search.proofs.Common.{walked_by, CanStand, CanStandEach, CanWalk, CanWalkEach, GridPoint, In, NodeId}
+use Rattle.drawing_search.proofs.Common.{PlainWalk, SegId, Sketch}
 
 -- lists of one length are the same where they are at each place
 pub same_list : {X : Type 0} (d : X) (xs ys : List X) → length xs ≡ length ys → ((i : ℕ) → i < length ys → get_or xs i d ≡ get_or ys i d) → xs ≡ ys
@@ -19,8 +10,6 @@ same_list d [] [] each same = refl
 same_list d [] (y ∷ ys) each same = absurd (omega (arith, each))
 same_list d (x ∷ xs) [] each same = absurd (omega (arith, each))
 same_list d (x ∷ xs) (y ∷ ys) each same = ap₂ (λ z zs. z ∷ zs) (same 0 (omega arith)) (same_list d xs ys (omega (arith, each)) (λ i h. same (suc i) (omega (arith, h))))
-
--- ---- nodes
 
 -- node n is one of these
 abbrev pub IsPut : ℕ → List (NodeId × GridPoint) → Type 0
@@ -77,6 +66,10 @@ flag_back j (m ∷ ms) n below how = flag_back (stood_at j m) ms n (omega (arith
 pub flag_still : (j : Sketch) (ms : List (NodeId × GridPoint)) (n : ℕ) → (IsPut n ms → ⊥) → is_standing (fold stood_at j ms) n ≡ is_standing j n
 flag_still j [] n off = refl
 flag_still j (m ∷ ms) n off = flag_still (stood_at j m) ms n (λ (p, i, same). off (p, inr i, same)) ∙ get_or-set_other j.stand m.0.0 n true false (λ e. off (m, inl refl, sym e))
+
+pub point_still : (j : Sketch) (ms : List (NodeId × GridPoint)) (n : ℕ) → (IsPut n ms → ⊥) → point_of_node (fold stood_at j ms) n ≡ point_of_node j n
+point_still j [] n off = refl
+point_still j (m ∷ ms) n off = point_still (stood_at j m) ms n (λ (p, i, same). off (p, inr i, same)) ∙ get_or-set_other j.points m.0.0 n m.1 nowhere (λ e. off (m, inl refl, sym e))
 
 -- they may be put there
 pub can_stand_each : (j : Sketch) (ms : List (NodeId × GridPoint)) → ((m : NodeId × GridPoint) → In m ms → CanStand j m.0 m.1) → ArePutOnce ms → CanStandEach j ms
@@ -143,8 +136,6 @@ can_walk_each j (m ∷ ms) can once = (can m (inl refl), can_walk_each (walked_b
         let c = can p (inr i) in
         record { segment = omega (arith, c.segment, length-set j.walks m.0.0 (Some m.1)); free = get_or-set_other j.walks m.0.0 p.0.0 (Some m.1) None (λ e. once.0 (p, i, e)) ∙ c.free; inside = c.inside }
 
--- ---- all of it
-
 -- what a drawing lacks, as it was before: each node that doesn't stand, and each segment without a walk, each once
 pub record IsLack (whole j : Sketch) (moved inner : List (NodeId × GridPoint)) (walks : List (SegId × PlainWalk)) : Type 0 where
   pub bounds : j.bounds ≡ whole.bounds
@@ -161,10 +152,12 @@ pub record IsLack (whole j : Sketch) (moved inner : List (NodeId × GridPoint)) 
 
 pub all_back : (whole j : Sketch) (moved inner : List (NodeId × GridPoint)) (walks : List (SegId × PlainWalk)) → IsLack whole j moved inner walks → put_back j moved inner walks ≡ whole
 all_back whole j moved inner walks l =
-    ap (λ (b : Bounds). (let k : Sketch = record { bounds = b; points = all.points; stand = all.stand; walks = all.walks } in k)) (walked_bounds both walks ∙ stood_bounds first inner ∙ stood_bounds j moved ∙ l.bounds)
-    ∙ ap (λ (ps : List GridPoint). (let k : Sketch = record { bounds = whole.bounds; points = ps; stand = all.stand; walks = all.walks } in k)) (walked_points both walks ∙ same_list nowhere both.points whole.points points_each points)
-    ∙ ap (λ (fs : List Bool). (let k : Sketch = record { bounds = whole.bounds; points = whole.points; stand = fs; walks = all.walks } in k)) (walked_stand both walks ∙ same_list false both.stand whole.stand stand_each flags)
-    ∙ ap (λ (os : List (Option PlainWalk)). (let k : Sketch = record { bounds = whole.bounds; points = whole.points; stand = whole.stand; walks = os } in k)) (same_list None all.walks whole.walks walks_each segments)
+    λ i. record {
+      bounds = (walked_bounds both walks ∙ stood_bounds first inner ∙ stood_bounds j moved ∙ l.bounds) i;
+      points = (walked_points both walks ∙ same_list nowhere both.points whole.points points_each points) i;
+      stand = (walked_stand both walks ∙ same_list false both.stand whole.stand stand_each flags) i;
+      walks = same_list None all.walks whole.walks walks_each segments i;
+    }
   where
     first : Sketch
     first = fold stood_at j moved

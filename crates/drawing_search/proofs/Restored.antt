@@ -1,35 +1,16 @@
 -- A run that stands is one that is laid along its own walks: so a drawing weighs what it weighs without the run, and what the
 -- run adds.
-use Rattle.std.proofs.Common.{◌≡◌, refl, sym, ◌∙◌, ap, subst, ℕ, suc, ◌+◌, ◌<◌, Bool, true, false, cond, List, [], ◌∷◌, length, get_or, set, Option, Some, None, ◌⊎◌, inl, inr, arith, length-set, get_or-set_same, get_or-set_other}
-use Rattle.std.proofs.lemmas.Bool.{cases_eq, eq-eqb, ne_eqb}
-use Rattle.std.proofs.lemmas.List.{set-get_or}
-use Rattle.std.specs.Prelude.{unwrap_or}
-use Rattle.map_base.specs.declared.ids.NodeId.{NodeId}
-use Rattle.map_base.specs.declared.ids.SegId.{SegId}
-use Rattle.graph_core.specs.declared.parts.GraphParts.{GraphParts}
-use Rattle.graph_core.specs.Consistent.{IsConsistent}
-use Rattle.line_chains.specs.declared.chain.Chain.{Chain}
-use Rattle.line_chains.specs.declared.chain.ChainStep.{ChainStep}
-use Rattle.line_chains.specs.Chains.{end_of, ends_of}
-use Rattle.octi_grid.specs.declared.point.GridPoint.{GridPoint}
-use Rattle.octi_grid.specs.Walks.{end_point, PlainWalk}
-use Rattle.octi_grid.proofs.Members.{In}
-use Rattle.grid_board.specs.declared.bounds.Bounds.{Bounds}
-use Rattle.segment_router.proofs.SettledLemmas.{nowhere}
-use Rattle.drawing_weights.specs.Scales.{Scale}
-use Rattle.run_laying.specs.Attempts.{inner_nodes}
-use Rattle.run_laying.specs.Laying.{from_low, with_piece, with_pieces, Sketch}
-use Rattle.run_laying.specs.Pieces.{reversed_walk}
-use Rattle.run_laying.specs.Runs.{AreSteps, LeadsTo}
-use Rattle.run_laying.specs.Sketches.{is_standing, point_of_node, walk_in, IsLegalSketch}
-use Rattle.run_laying.proofs.Attempted.{HasWalk, IsClearFor}
-use Rattle.run_laying.proofs.Kept.{first_leads, first_outer, inner_step, last_outer}
-use Rattle.run_laying.proofs.Reversed.{back_again, back_end}
-use Rattle.run_laying.proofs.RunFacts.{end_below, leads_to, IsOff}
+use Rattle.std.proofs.Common.{◌≡◌, refl, sym, ◌∙◌, ap, subst, ℕ, suc, ◌+◌, ◌<◌, true, false, cond, List, [], ◌∷◌, length, get_or, set, Option, Some, None, ◌⊎◌, inl, inr, arith, length-set, get_or-set_same, get_or-set_other}
+use Rattle.line_chains.specs.Chains.{ends_of}
+use Rattle.run_laying.proofs.RunFacts.{IsOff}
 use Rattle.run_laying.proofs.Standing.{end_stands}
-use Rattle.run_laying.proofs.Turned.{turned_of, IsTurned}
-use Rattle.drawing_search.specs.Changes.{without_run, without_walks, IsTakable}
-use Rattle.drawing_search.specs.Gains.{run_gain, sketch_weight}
+use Rattle.drawing_search.proofs.Common.{back_again, back_end, cases_eq, end_below, end_of, end_point, eq-eqb}
+use Rattle.drawing_search.proofs.Common.{first_leads, first_outer, from_low, inner_nodes, inner_step, is_standing}
+use Rattle.drawing_search.proofs.Common.{last_outer, leads_to, ne_eqb, nowhere, point_of_node, reversed_walk, run_gain}
+use Rattle.drawing_search.proofs.Common.{set-get_or, sketch_weight, turned_of, unwrap_or, walk_in, with_piece}
+use Rattle.drawing_search.proofs.Common.{with_pieces, without_run, without_walks, AreSteps, Chain, ChainStep}
+use Rattle.drawing_search.proofs.Common.{GraphParts, GridPoint, HasWalk, In, IsClearFor, IsConsistent, IsLegalSketch}
+use Rattle.drawing_search.proofs.Common.{IsTakable, IsTurned, LeadsTo, NodeId, PlainWalk, Scale, SegId, Sketch}
 use Rattle.drawing_search.proofs.Gained.{run_gained}
 use Rattle.drawing_search.proofs.PricedRuns.{leads_apart}
 use Rattle.drawing_search.proofs.PutBack.{same_list}
@@ -48,8 +29,6 @@ pub length-pieces_along : (graph : GraphParts) (k : Sketch) (n : NodeId) (ts : L
 length-pieces_along graph k n [] = refl
 length-pieces_along graph k n (t ∷ ts) = ap (λ m. suc m) (length-pieces_along graph k t.to ts)
 
--- ---- one step
-
 -- a drawing is another one, but for walks of steps, and for nodes to which they lead
 pub record IsBut (old : Sketch) (ts : List ChainStep) (k : Sketch) : Type 0 where
   pub bounds : k.bounds ≡ old.bounds
@@ -61,11 +40,12 @@ pub record IsBut (old : Sketch) (ts : List ChainStep) (k : Sketch) : Type 0 wher
 
 same_but : (old k : Sketch) → IsBut old [] k → k ≡ old
 same_but old k but =
-    ap (λ (b : Bounds). (let j : Sketch = record { bounds = b; points = k.points; stand = k.stand; walks = k.walks } in j)) but.bounds
-    ∙ ap (λ (ps : List GridPoint). (let j : Sketch = record { bounds = old.bounds; points = ps; stand = k.stand; walks = k.walks } in j)) but.points
-    ∙ ap (λ (fs : List Bool). (let j : Sketch = record { bounds = old.bounds; points = old.points; stand = fs; walks = k.walks } in j)) (same_list false k.stand old.stand but.stand_each (λ m h. but.stand m (λ q i e. i)))
-    ∙ ap (λ (os : List (Option PlainWalk)). (let j : Sketch = record { bounds = old.bounds; points = old.points; stand = old.stand; walks = os } in j))
-    (same_list None k.walks old.walks but.walks_each (λ s h. but.walks (record { 0 = s }) (λ q i e. i)))
+    λ i. record {
+      bounds = but.bounds i;
+      points = but.points i;
+      stand = same_list false k.stand old.stand but.stand_each (λ m h. but.stand m (λ q j e. j)) i;
+      walks = same_list None k.walks old.walks but.walks_each (λ s h. but.walks (record { 0 = s }) (λ q j e. j)) i;
+    }
 
 module _ (graph : GraphParts) (fit : IsConsistent graph) (old : Sketch) (h : IsLegalSketch graph old) (n : NodeId) (t : ChainStep) (v : PlainWalk) (is : walk_in old t.seg ≡ Some v) (below : t.seg.0 < length graph.ends) (leads : LeadsTo graph n t) where
   abbrev w : PlainWalk

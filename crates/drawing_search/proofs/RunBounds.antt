@@ -1,50 +1,52 @@
 -- The bounds of runs are bounds: a run that is laid adds no less, and its walk costs no more than the limit where it adds no
 -- more than it may.
 use Rattle.std.proofs.Common.{◌≡◌, refl, sym, ◌∙◌, ap, subst, ℕ, ◌+◌, ◌-◌, ◌*◌, ◌/◌, ◌<◌, ◌≤◌, Bool, true, false, cond, eqb, nat_lt, ◌||◌, min, List, [], ◌∷◌, length, filter, fold, map, Some, option_map, ◌⊎◌, inl, inr, arith}
-use Rattle.std.proofs.Math.Nat.{mul-le-mul_left}
-use Rattle.std.proofs.lemmas.Bool.{cases_Bool, eqb-true}
-use Rattle.std.proofs.lemmas.Bool.Decides.{nat_tests}
-use Rattle.std.specs.Int.{bit_at}
-use Rattle.std.specs.Prelude.{slice_index}
-use Rattle.map_base.specs.declared.ids.NodeId.{NodeId}
-use Rattle.map_base.specs.declared.ids.SegId.{SegId}
-use Rattle.graph_core.specs.declared.parts.GraphParts.{GraphParts}
-use Rattle.graph_core.specs.Consistent.{IsConsistent}
-use Rattle.line_chains.specs.declared.chain.Chain.{Chain}
-use Rattle.line_chains.specs.declared.chain.ChainStep.{ChainStep}
-use Rattle.line_chains.specs.Chains.{end_after, end_of, ends_of, last_seg}
-use Rattle.octi_grid.specs.declared.dir.Dir.{Dir}
-use Rattle.octi_grid.specs.declared.dir.Dir.TheVariants as dir
-use Rattle.octi_grid.specs.declared.point.GridPoint.{GridPoint}
-use Rattle.octi_grid.specs.Ways.{number_of, reverse_of}
-use Rattle.octi_grid.specs.Walks.{cost_of, end_point, end_port, last_of, start_port, PlainWalk}
-use Rattle.octi_grid.proofs.Members.{in_flat_map, In}
+use Rattle.std.proofs.lemmas.Nat.{le-div}
+use Rattle.line_chains.specs.Chains.{ends_of}
 use Rattle.walk_search.specs.Reaching.{reach_of}
 use Rattle.walk_search.proofs.LeastReach.{reach_none}
-use Rattle.walk_search.specs.Routes.{allows, directions}
-use Rattle.segment_router.specs.Routes.{port_at_node, port_by}
-use Rattle.drawing_weights.specs.Scales.{Scale}
-use Rattle.drawing_weights.specs.Weights.{turns_of}
 use Rattle.drawing_weights.proofs.LeastWeights.{reach_turns}
-use Rattle.run_laying.specs.Attempts.{inner_nodes}
-use Rattle.run_laying.specs.Laying.{board_under, first_seg_of, from_low, last_seg_of, with_pieces, Sketch}
-use Rattle.run_laying.specs.Runs.{AreSteps, IsRun}
-use Rattle.run_laying.specs.Sketches.{point_of_node, IsLegalSketch}
-use Rattle.run_laying.proofs.Attempted.{IsClearFor}
-use Rattle.run_laying.proofs.Cuts.{first_start_port, second_end_port, some_end, some_first}
-use Rattle.run_laying.proofs.LaidRuns.{IsCut}
-use Rattle.run_laying.proofs.Reversed.{twice}
-use Rattle.run_laying.proofs.RunFacts.{step_of}
-use Rattle.run_laying.proofs.Turned.{port_from, port_to, turned_of}
-use Rattle.drawing_search.specs.declared.least.LeastTurns.{LeastTurns}
-use Rattle.drawing_search.specs.Bounds.{IsBoundOf}
-use Rattle.drawing_search.specs.Gains.{pairs_at, run_gain, steps_gain, turns_by}
-use Rattle.drawing_search.specs.Least.{allowed_dirs, free_nodes, least_beside, least_by, never, ports_for, straight_way, turn_price, turns_at_least}
-use Rattle.drawing_search.proofs.Bounded.{free_limit, priced_limit}
+use Rattle.drawing_search.proofs.Common.{allowed_dirs, allows, bit_at, board_under, cases_Bool, cases_lt, cost_of}
+use Rattle.drawing_search.proofs.Common.{directions, end_after, end_of, end_point, end_port, eqb-true, first_leads}
+use Rattle.drawing_search.proofs.Common.{first_seg_of, first_start_port, free_nodes, from_low, in_flat_map, inner_nodes}
+use Rattle.drawing_search.proofs.Common.{last_of, last_seg, last_seg_of, least_beside, least_by, mul-le-mul_left}
+use Rattle.drawing_search.proofs.Common.{nat_tests, never, number_of, pairs_at, point_of_node, port_at_node, port_by}
+use Rattle.drawing_search.proofs.Common.{port_from, port_to, ports_for, reverse_of, run_gain, second_end_port}
+use Rattle.drawing_search.proofs.Common.{slice_index, some_end, some_first, start_port, step_of, steps_gain}
+use Rattle.drawing_search.proofs.Common.{straight_way, turn_price, turned_of, turns_at_least, turns_by, turns_of, twice}
+use Rattle.drawing_search.proofs.Common.{with_pieces, AreSteps, Chain, ChainStep, Dir, GraphParts, GridPoint, In}
+use Rattle.drawing_search.proofs.Common.{IsBoundOf, IsClearFor, IsConsistent, IsCut, IsLegalSketch, IsRun, LeastTurns}
+use Rattle.drawing_search.proofs.Common.{NodeId, PlainWalk, Scale, SegId, Sketch}
 use Rattle.drawing_search.proofs.Gained.{end_turns, from_turns}
-use Rattle.drawing_search.proofs.PricedRuns.{first_leads, have_pieces, leads_apart, priced_run, HavePieces, IsPrice}
-use Rattle.drawing_search.proofs.StraightWays.{walk_turns, way_small}
-use Rattle.drawing_search.proofs.TurnSums.{cost_parts, steps_cost}
+use Rattle.drawing_search.proofs.PricedRuns.{have_pieces, leads_apart, priced_run, HavePieces, IsPrice}
+use Rattle.drawing_search.proofs.StraightWays.{walk_turns, way_small, cost_parts, steps_cost}
+use Rattle.drawing_search.proofs.Takable.{in_mapped}
+use Rattle.octi_grid.specs.declared.dir.Dir.TheVariants as dir
+
+share : (k less overs price by : ℕ) → 0 < price → by + less ≡ overs + price * (k + less) → k * price ≤ by
+share k less overs price by some e = omega (arith, mul-le-mul_left less some)
+
+-- where each turn has a price
+pub priced_limit : (steps turns overs price by may gain : ℕ) → 0 < price → by ≤ overs + price * turns → steps + (overs + price * turns) ≤ gain → gain ≤ may → steps + turns ≤ may - by + by / price
+priced_limit steps turns overs price by may gain some low adds within = by_order (cases_lt turns less)
+  where
+    less : ℕ
+    less = overs + price * turns - by
+
+    by_order : (turns < less) ⊎ (less ≤ turns) → steps + turns ≤ may - by + by / price
+    by_order (inl few) = omega (arith, low, adds, within, few)
+    by_order (inr enough) =
+        let split : turns ≡ turns - less + less = omega (arith, enough) in
+        let all : by + less ≡ overs + price * (turns - less + less) = omega (arith, low, ap (λ n. price * n) split) in
+        let most : turns - less ≤ by / price = le-div (turns - less) by price some (share (turns - less) less overs price by some all) in
+        omega (arith, low, adds, within, most)
+
+-- where turns may lie at nodes at which they weigh nothing, at most so many of them
+pub free_limit : (steps turns overs free by may gain : ℕ) → by ≤ overs → steps + overs + turns ≤ gain + free → gain ≤ may → steps + turns ≤ may - by + free
+free_limit steps turns overs free by may gain low adds within = omega arith
+
+-- ---- the bounds of runs are bounds: a run that is laid adds no less, and its walk costs no more than the limit
+-- where it adds no more than it may
 
 -- ---- the ports of a run that is laid are those of its walk
 
@@ -84,11 +86,6 @@ fold_each low [] x i = absurd i
 fold_each low (y ∷ ys) x (inl e) = omega (arith, e, fold_least (min low y) ys)
 fold_each low (y ∷ ys) x (inr i) = fold_each (min low y) ys x i
 
-in_mapped : {X : Type 0} (f : X → ℕ) (xs : List X) (x : X) → In x xs → In (f x) (map f xs)
-in_mapped f [] x i = absurd i
-in_mapped f (y ∷ ys) x (inl e) = inl (ap f e)
-in_mapped f (y ∷ ys) x (inr i) = inr (in_mapped f ys x i)
-
 kept_in : (test : Dir → Bool) (ds : List Dir) (d : Dir) → In d ds → test d ≡ true → In d (filter test ds)
 kept_in test [] d i e = absurd i
 kept_in test (f ∷ ds) d (inl same) e = subst (λ b. In d (cond b (f ∷ filter test ds) (filter test ds))) (sym (ap test (sym same) ∙ e)) (inl same)
@@ -116,8 +113,6 @@ least_allowed scale graph k c way d e leaves arrives =
     (kept_in (λ f. eqb (bit_at (ports_for graph k c.from.0 (first_seg_of c.steps)) (number_of f)) 1) directions d (every_direction d) leaves)
     (in_mapped (least_by scale graph k c way d) (allowed_dirs graph k (end_of c).0 (last_seg_of c)) e
     (kept_in (λ f. eqb (bit_at (ports_for graph k (end_of c).0 (last_seg_of c)) (number_of f)) 1) directions e (every_direction e) arrives)))
-
--- ---- prices
 
 -- the price of a run's turns, and that no turn is free where there is one
 pub record IsPriced (scale : Scale) (graph : GraphParts) (ts : List ChainStep) : Type 0 where

@@ -1,12 +1,6 @@
 -- The first and the last segment of a run, and where it ends, as they are read.
 use Rattle.std.proofs.Common.{◌≡◌, refl, sym, ◌∙◌, ap, ℕ, zero, suc, ◌+◌, ◌-◌, ◌<◌, ◌≤◌, List, [], ◌∷◌, length, drop, get_or, arith, length-drop}
-use Rattle.std.proofs.lemmas.List.{drop_more}
-use Rattle.map_base.specs.declared.ids.NodeId.{NodeId}
-use Rattle.map_base.specs.declared.ids.SegId.{SegId}
-use Rattle.line_chains.specs.declared.chain.ChainStep.{ChainStep}
-use Rattle.line_chains.specs.Chains.{last_seg}
-use Rattle.run_laying.specs.Attempts.{inner_nodes}
-use Rattle.run_laying.specs.Laying.{first_seg_of}
+use Rattle.drawing_search.proofs.Common.{drop_more, first_seg_of, inner_nodes, last_seg, ChainStep, NodeId, SegId}
 
 pub first_seg_is : (ts : List ChainStep) (d : ChainStep) → 0 < length ts → first_seg_of ts ≡ (get_or ts 0 d).seg
 first_seg_is [] d h = absurd (omega arith)

@@ -1,22 +1,9 @@
 -- What a run is, as it is read step by step: all of it lies on the graph, and its ends are those of its first and last step.
 use Rattle.std.proofs.Common.{◌≡◌, refl, sym, ◌∙◌, ap, ℕ, zero, suc, ◌+◌, ◌-◌, ◌<◌, ◌≤◌, true, List, [], ◌∷◌, length, get_or, arith}
-use Rattle.std.specs.Prelude.{nat_le, unsigned_abs, All}
-use Rattle.std.proofs.lemmas.Bool.{and_from, and_parts, le-leb, leb-true}
-use Rattle.map_base.specs.declared.ids.NodeId.{NodeId}
-use Rattle.graph_core.specs.declared.parts.GraphParts.{GraphParts}
-use Rattle.graph_core.specs.Consistent.{IsConsistent}
-use Rattle.line_chains.specs.declared.chain.Chain.{Chain}
-use Rattle.line_chains.specs.declared.chain.ChainStep.{ChainStep}
-use Rattle.line_chains.specs.Chains.{end_of}
-use Rattle.octi_grid.specs.declared.point.GridPoint.{GridPoint}
-use Rattle.grid_board.specs.Points.{is_near}
-use Rattle.segment_router.proofs.Places.{in_at}
-use Rattle.run_laying.specs.Attempts.{inner_nodes}
-use Rattle.run_laying.specs.Laying.{first_seg_of, last_seg_of, Sketch}
-use Rattle.run_laying.specs.Runs.{IsRun}
-use Rattle.run_laying.specs.Sketches.{is_standing}
-use Rattle.run_laying.proofs.RunFacts.{end_below, leads_to, step_of}
-use Rattle.drawing_search.specs.Gains.{AreOnGraph}
+use Rattle.drawing_search.proofs.Common.{and_from, and_parts, end_below, end_of, first_seg_of, in_at, inner_nodes}
+use Rattle.drawing_search.proofs.Common.{is_near, is_standing, last_seg_of, le-leb, leads_to, leb-true, nat_le, step_of}
+use Rattle.drawing_search.proofs.Common.{unsigned_abs, All, AreOnGraph, Chain, ChainStep, GraphParts, GridPoint}
+use Rattle.drawing_search.proofs.Common.{IsConsistent, IsRun, NodeId, Sketch}
 use Rattle.drawing_search.proofs.LaidAll.{first_end, last_end}
 use Rattle.line_chains.proofs.Walking.{end_is}
 use Rattle.drawing_search.proofs.RunEnds.{first_seg_is, last_seg_is}

@@ -1,30 +1,12 @@
 -- What each step of a run wants that is laid along the walk that was found.
 use Rattle.std.proofs.Common.{◌≡◌, refl, sym, ◌∙◌, ap, ap₂, subst, ℕ, ◌+◌, ◌<◌, ◌≤◌, Bool, true, nat_le, nat_lt, List, [], length, drop, get_or, map, None, Some, arith}
-use Rattle.std.proofs.lemmas.List.{drop_all}
-use Rattle.std.proofs.lemmas.List.FromFn.{length-map-range_with_len}
-use Rattle.std.specs.List.{list_all, range_with_len}
-use Rattle.map_base.specs.declared.ids.NodeId.{NodeId}
-use Rattle.graph_core.specs.declared.parts.GraphParts.{GraphParts}
-use Rattle.graph_core.specs.Consistent.{IsConsistent}
-use Rattle.line_chains.specs.declared.chain.Chain.{Chain}
-use Rattle.line_chains.specs.declared.chain.ChainStep.{ChainStep}
-use Rattle.line_chains.specs.Chains.{end_of}
-use Rattle.octi_grid.specs.declared.dir.Dir.{Dir}
-use Rattle.octi_grid.specs.declared.point.GridPoint.{GridPoint}
-use Rattle.octi_grid.specs.Legal.{is_even}
-use Rattle.octi_grid.specs.Walks.{end_point, points_of, PlainWalk}
-use Rattle.grid_board.specs.declared.bounds.Bounds.{Bounds}
-use Rattle.grid_board.specs.Boards.{contains}
-use Rattle.segment_router.proofs.SettledLemmas.{nowhere}
-use Rattle.walk_search.specs.Routes.{if_within}
-use Rattle.run_laying.specs.Laying.{board_under, last_seg_of, run_walk, with_piece, with_pieces, Sketch}
-use Rattle.run_laying.specs.Pieces.{cut_place, cuts_at, even_steps, pieces_of, point_at}
-use Rattle.run_laying.specs.Runs.{IsRun}
-use Rattle.run_laying.specs.Sketches.{walk_in, IsFreeFor, IsLegalSketch}
-use Rattle.run_laying.proofs.EvenCuts.{length-pieces}
-use Rattle.drawing_search.specs.Changes.{StandsAfter}
-use Rattle.drawing_search.specs.Tracks.{piece_along, IsTrack}
-use Rattle.drawing_search.specs.Trying.{laid_within}
+use Rattle.drawing_search.proofs.Common.{board_under, contains, cut_place, cuts_at, drop_all, end_of, end_point}
+use Rattle.drawing_search.proofs.Common.{even_steps, if_within, is_even, laid_within, last_seg_of}
+use Rattle.drawing_search.proofs.Common.{length-map-range_with_len, length-pieces, list_all, nowhere, piece_along}
+use Rattle.drawing_search.proofs.Common.{pieces_of, point_at, points_of, range_with_len, run_walk, walk_in, with_piece}
+use Rattle.drawing_search.proofs.Common.{with_pieces, Bounds, Chain, ChainStep, Dir, GraphParts, GridPoint}
+use Rattle.drawing_search.proofs.Common.{IsConsistent, IsFreeFor, IsLegalSketch, IsRun, IsTrack, NodeId, PlainWalk}
+use Rattle.drawing_search.proofs.Common.{Sketch, StandsAfter}
 use Rattle.drawing_search.proofs.Laid.{all_laid_along, cuts_some, pieces_more, run_further, step_of_run, IsLayingFrom, IsStepOf}
 use Rattle.drawing_search.proofs.LaySteps.{cut_at, cut_even, cut_order, cut_within, laying_begins, piece_at, points_inside}
 use Rattle.drawing_search.proofs.Steps.{piece_end}
@@ -122,8 +104,6 @@ module _ (graph : GraphParts) (fit : IsConsistent graph) (k : Sketch) (h : IsLeg
   run_ends i at new past rest =
       all_laid_along graph most c k new w by.found by.enough
       (sym (ap₂ (λ (ts : List ChainStep) (vs : List PlainWalk). with_pieces graph at ts vs new) (drop_all i c.steps past) (drop_all i pieces (omega (arith, past, length-pieces w count)))) ∙ rest)
-
--- ---- a run under way
 
 -- the run is laid up to step i, from which the rest of it comes
 pub record IsUnderWay (graph : GraphParts) (k : Sketch) (c : Chain) (most : ℕ) (ps : List GridPoint) (ds : List Dir) (cs : List ℕ) (i : ℕ) (at : NodeId) (mid : Sketch) : Type 0 where

@@ -1,29 +1,50 @@
 -- A search under way: passes over groups of attempts.
-use Rattle.std.proofs.Common.{◌≡◌, sym, ◌∙◌, ap, ap₂, subst, ℕ, ◌+◌, ◌<◌, ◌≤◌, List, length, drop, min, get_or, arith}
-use Rattle.std.proofs.lemmas.List.{drop_all, drop_more}
-use Rattle.std.proofs.lemmas.List.Sums.{fold-append}
-use Rattle.std.specs.Prelude.{All}
-use Rattle.graph_core.specs.declared.parts.GraphParts.{GraphParts}
-use Rattle.graph_core.specs.Consistent.{IsConsistent}
-use Rattle.octi_grid.specs.declared.point.GridPoint.{GridPoint}
-use Rattle.octi_grid.specs.Walks.{PlainWalk}
-use Rattle.octi_grid.proofs.Members.{In}
-use Rattle.segment_router.proofs.Places.{all_in}
-use Rattle.drawing_weights.specs.Drawn.{points_all}
-use Rattle.drawing_weights.specs.Scales.{weight_by, Scale}
-use Rattle.grid_board.specs.declared.bounds.Bounds.{Bounds}
-use Rattle.run_laying.specs.Attempts.{improving, Attempt}
-use Rattle.run_laying.specs.Laying.{Sketch}
-use Rattle.run_laying.specs.Runs.{IsFitting}
-use Rattle.run_laying.specs.Searches.{after_pass, after_passes, Found}
-use Rattle.drawing_search.specs.declared.group.Group.{Group}
-use Rattle.drawing_search.specs.Gains.{sketch_weight}
-use Rattle.drawing_search.specs.Searched.{attempts_in, attempts_of}
-use Rattle.drawing_search.specs.Tries.{after_tries, after_try, IsSettled, Tried}
-use Rattle.drawing_search.specs.Trying.{walks_of}
+use Rattle.std.proofs.Common.{◌≡◌, sym, ◌∙◌, ap, ap₂, subst, ℕ, ◌+◌, ◌<◌, ◌≤◌, List, length, drop, min, get_or, arith, refl, zero, suc, cond, [], ◌∷◌, Option}
+use Rattle.drawing_search.proofs.Common.{after_pass, after_passes, after_tries, after_try, all_in, attempts_in}
+use Rattle.drawing_search.proofs.Common.{attempts_of, drop_all, drop_more, eq-eqb, fold-append, found_with, improving}
+use Rattle.drawing_search.proofs.Common.{le-leb, ne_eqb, points_all, sketch_weight, walks_of, weight_by, All, Attempt}
+use Rattle.drawing_search.proofs.Common.{Bounds, Found, GraphParts, GridPoint, Group, In, IsConsistent, IsFitting}
+use Rattle.drawing_search.proofs.Common.{IsSettled, PlainWalk, Scale, Sketch, Tried}
 use Rattle.drawing_search.proofs.OnWalks.{found_of, tries_there, IsGood, IsThere}
-use Rattle.drawing_search.proofs.Passes.{pass_none, pass_some, passes_full, IsEnough}
 use Rattle.drawing_search.proofs.TriedGroups.{tries_after, IsAfter}
+
+module _ (try : List PlainWalk → Attempt → Option (List PlainWalk)) (attempts : List Attempt) (at_once most : ℕ) where
+  pass_full : (limit : ℕ) (rest : List Attempt) (f : Found) → limit ≤ f.made → after_pass try rest limit f ≡ f
+  pass_full limit [] f full = refl
+  pass_full limit (a ∷ rest) f full = ap (λ b. after_pass try rest limit (cond b f (found_with f (try f.walks a)))) (le-leb limit f.made full) ∙ pass_full limit rest f full
+
+  -- so many passes are left, enough for all attempts that may be made
+  abbrev pub IsEnough : ℕ → Found → Found → Type 0
+  IsEnough p f result = (most ≤ f.made + p) × (after_passes try attempts at_once most p f ≡ result)
+
+  -- all attempts were made
+  pub passes_full : (p : ℕ) (f result : Found) → most ≤ f.made → IsEnough p f result → f ≡ result
+  passes_full zero f result full enough = enough.1
+  passes_full (suc p) f result full enough =
+      let same = pass_full (min most (f.made + at_once)) attempts f (omega (arith, full)) in
+      ap (λ b. cond b f (after_passes try attempts at_once most p (after_pass try attempts (min most (f.made + at_once)) f))) (sym (eq-eqb (after_pass try attempts (min most (f.made + at_once)) f).made f.made (ap (λ (x : Found). x.made) same)))
+      ∙ enough.1
+
+  -- a pass made nothing
+  pub pass_none : (p : ℕ) (f result : Found) → f.made < most → IsEnough p f result → (after_pass try attempts (min most (f.made + at_once)) f).made ≡ f.made → f ≡ result
+  pass_none zero f result room enough same = absurd (omega (arith, room, enough.0))
+  pass_none (suc p) f result room enough same =
+      ap (λ b. cond b f (after_passes try attempts at_once most p (after_pass try attempts (min most (f.made + at_once)) f))) (sym (eq-eqb (after_pass try attempts (min most (f.made + at_once)) f).made f.made same))
+      ∙ enough.1
+
+  -- or something, and fewer are left
+  pub pass_some : (p : ℕ) (f result : Found) → f.made < most → IsEnough p f result → f.made < (after_pass try attempts (min most (f.made + at_once)) f).made
+      → (q : ℕ) × IsEnough q (after_pass try attempts (min most (f.made + at_once)) f) result
+  pass_some zero f result room enough more = absurd (omega (arith, room, enough.0))
+  pass_some (suc p) f result room enough more = (
+    p,
+    (
+      omega (arith, enough.0, more),
+      ap (λ b. cond b f (after_passes try attempts at_once most p (after_pass try attempts (min most (f.made + at_once)) f)))
+          (sym (ne_eqb (after_pass try attempts (min most (f.made + at_once)) f).made f.made (λ e. absurd (omega (arith, e, more)))))
+          ∙ enough.1,
+    ),
+  )
 
 -- the attempts of groups, one group after another
 pub tries_more : (scale : Scale) (graph : GraphParts) (first : List GridPoint) (most : ℕ) (groups : List Group) (i : ℕ) (d : Group) (f : Tried) → i < length groups

@@ -1,17 +1,11 @@
 -- Walks step by step: their points, and what lies on them between two places.
 use Rattle.std.proofs.Common.{◌≡◌, sym, ◌∙◌, ap, subst, ℕ, zero, suc, ◌+◌, ◌-◌, ◌<◌, ◌≤◌, Bool, true, List, [], ◌∷◌, ◌++◌, length, map, take, drop, reverse, get_or, arith, length-drop}
 use Rattle.std.proofs.Math.Seq.{take-add}
-use Rattle.std.proofs.lemmas.List.{drop_more, get_or-drop, take-append-drop, map-append, reverse-append, take_more}
-use Rattle.std.proofs.lemmas.Bool.{and_parts}
-use Rattle.std.specs.List.{list_all, AllByRecursion}
-use Rattle.octi_grid.specs.declared.dir.Dir.{Dir}
-use Rattle.octi_grid.specs.declared.point.GridPoint.{GridPoint}
-use Rattle.octi_grid.specs.Ways.{after, points_from, reverse_of, step_from, IsWithin}
-use Rattle.octi_grid.specs.Walks.{end_point, points_of}
-use Rattle.octi_grid.proofs.WayLemmas.{after-append, list_all-points-append}
-use Rattle.run_laying.specs.Pieces.{point_at}
-use Rattle.run_laying.proofs.EvenCuts.{length-points, point_after}
-use Rattle.drawing_search.specs.Tracks.{piece_along, IsTrack}
+use Rattle.run_laying.proofs.EvenCuts.{point_after}
+use Rattle.drawing_search.proofs.Common.{after, after-append, and_parts, drop_more, end_point, get_or-drop}
+use Rattle.drawing_search.proofs.Common.{length-points, list_all, list_all-points-append, map-append, piece_along}
+use Rattle.drawing_search.proofs.Common.{point_at, points_from, points_of, reverse-append, reverse_of, step_from}
+use Rattle.drawing_search.proofs.Common.{take-append-drop, take_more, AllByRecursion, Dir, GridPoint, IsTrack, IsWithin}
 
 within_at : (P : GridPoint → Type 0) (p : GridPoint) (ds : List Dir) (i : ℕ) → i ≤ length ds → AllByRecursion P (points_from p ds) → P (point_at (points_from p ds) i)
 within_at P p [] zero h all = all.0

@@ -1,23 +1,17 @@
 -- Runs that stand may be taken off the board: first their walks, then the nodes between their ends.
-use Rattle.std.proofs.Common.{◌≡◌, refl, sym, ◌∙◌, ap, subst, ℕ, zero, suc, ◌+◌, ◌-◌, ◌<◌, ◌≤◌, true, false, List, [], ◌∷◌, length, drop, get_or, set, Contains, Option, Some, None, ◌⊎◌, inl, inr, arith, get_or-set_other}
-use Rattle.std.proofs.lemmas.Bool.{cases_eq, cases_lt}
-use Rattle.std.proofs.lemmas.List.{get_or_past}
-use Rattle.map_base.specs.declared.ids.NodeId.{NodeId}
-use Rattle.map_base.specs.declared.ids.SegId.{SegId}
-use Rattle.graph_core.specs.declared.parts.GraphParts.{GraphParts}
-use Rattle.graph_core.specs.Consistent.{IsConsistent}
-use Rattle.line_chains.specs.declared.chain.Chain.{Chain}
-use Rattle.line_chains.specs.declared.chain.ChainStep.{ChainStep}
-use Rattle.octi_grid.specs.Walks.{PlainWalk}
-use Rattle.octi_grid.proofs.Members.{In}
-use Rattle.run_laying.specs.Attempts.{inner_nodes}
-use Rattle.run_laying.specs.Laying.{Sketch}
-use Rattle.run_laying.specs.Runs.{AreOnce, AreSteps, IsRun}
-use Rattle.run_laying.specs.Sketches.{is_standing, lifted, walk_in, with_walk_of, IsEndOf, IsLegalSketch}
-use Rattle.run_laying.proofs.RunFacts.{contains_in, inner_of, inner_off, leads_to, once_first, IsOff}
-use Rattle.drawing_search.specs.Changes.{without_walks, AreApart, AreLiftable, IsLiftable, IsTakable}
+use Rattle.std.proofs.Common.{◌≡◌, refl, sym, ◌∙◌, ap, subst, ℕ, zero, suc, ◌+◌, ◌-◌, ◌<◌, ◌≤◌, true, false, List, [], ◌∷◌, length, drop, get_or, Contains, Some, None, ◌⊎◌, inl, inr, arith, get_or-set_other, take, map, Bool}
+use Rattle.grid_board.proofs.Within.{inside_facts}
+pub use Rattle.segment_router.proofs.RouteLemmas.{in_map as from_map}
+use Rattle.run_laying.proofs.RunFacts.{IsOff}
+use Rattle.drawing_search.proofs.Common.{and_from, cases_eq, cases_lt, contains, contains_in, get_or_past, in_at}
+use Rattle.drawing_search.proofs.Common.{inner_nodes, inner_of, inner_off, ints, is_near, is_standing, le-leb, leads_to}
+use Rattle.drawing_search.proofs.Common.{lifted, nat_le, once_first, point_of_node, short_inside, unsigned_abs, walk_in}
+use Rattle.drawing_search.proofs.Common.{with_walk_of, without_walks, All, AreApart, AreBounds, AreLiftable, AreOnce}
+use Rattle.drawing_search.proofs.Common.{AreSteps, Bounds, Chain, ChainStep, GraphParts, GridPoint, In, IsConsistent}
+use Rattle.drawing_search.proofs.Common.{IsEndOf, IsLegalSketch, IsLiftable, IsRun, IsShort, IsTakable, NodeId}
+use Rattle.drawing_search.proofs.Common.{PlainWalk, SegId, Sketch}
 use Rattle.drawing_search.proofs.RunEnds.{inner_left}
-use Rattle.drawing_search.proofs.TakenOff.{lifted_legal, off_legal}
+use Rattle.drawing_search.proofs.TakenOff.{gone, lifted_legal, off_legal, still_gone}
 
 -- what is at a place of a list is in it
 pub in_from : {X : Type 0} (xs : List X) (x : X) → Contains xs x → In x xs
@@ -25,7 +19,19 @@ in_from [] x c = absurd (omega (arith, c.1))
 in_from (y ∷ ys) x (zero, h, e) = inl (sym e)
 in_from (y ∷ ys) x (suc i, h, e) = inr (in_from ys x (i, omega (arith, h), e))
 
--- ---- nodes
+-- what is in the front of a list is in it
+pub in_taken : {X : Type 0} (xs : List X) (i : ℕ) (x : X) → In x (take i xs) → In x xs
+in_taken [] zero x m = m
+in_taken [] (suc i) x m = m
+in_taken (y ∷ xs) zero x m = absurd m
+in_taken (y ∷ xs) (suc i) x (inl e) = inl e
+in_taken (y ∷ xs) (suc i) x (inr m) = inr (in_taken xs i x m)
+
+-- what is in a list of values
+pub in_mapped : {X Y : Type 0} (f : X → Y) (xs : List X) (x : X) → In x xs → In (f x) (map f xs)
+in_mapped f [] x i = absurd i
+in_mapped f (y ∷ ys) x (inl e) = inl (ap f e)
+in_mapped f (y ∷ ys) x (inr i) = inr (in_mapped f ys x i)
 
 -- the nodes between steps may be taken off one after another
 pub next_liftable : (graph : GraphParts) (k : Sketch) (ts : List ChainStep) (i : ℕ) (d : ChainStep) → 1 ≤ i → i < length ts → AreLiftable graph k (inner_nodes (drop (i - 1) ts))
@@ -66,33 +72,19 @@ pub same_stand : (k : Sketch) (ts : List ChainStep) → (without_walks k ts).sta
 same_stand k [] = refl
 same_stand k (t ∷ ts) = same_stand (with_walk_of k t.seg None) ts
 
-gone : (ws : List (Option PlainWalk)) (i j : ℕ) → get_or ws j None ≡ None → get_or (set ws i None) j None ≡ None
-gone [] i j e = e
-gone (o ∷ ws) zero zero e = refl
-gone (o ∷ ws) zero (suc j) e = e
-gone (o ∷ ws) (suc i) zero e = e
-gone (o ∷ ws) (suc i) (suc j) e = gone ws i j e
-
-gone_here : (ws : List (Option PlainWalk)) (i : ℕ) → get_or (set ws i None) i None ≡ None
-gone_here [] i = refl
-gone_here (o ∷ ws) zero = refl
-gone_here (o ∷ ws) (suc i) = gone_here ws i
-
 pub still_none : (k : Sketch) (ts : List ChainStep) (s : SegId) → walk_in k s ≡ None → walk_in (without_walks k ts) s ≡ None
 still_none k [] s e = e
-still_none k (t ∷ ts) s e = still_none (with_walk_of k t.seg None) ts s (gone k.walks t.seg.0 s.0 e)
+still_none k (t ∷ ts) s e = still_none (with_walk_of k t.seg None) ts s (still_gone None k.walks t.seg.0 s.0 e)
 
 pub none_left : (k : Sketch) (ts : List ChainStep) (q : ChainStep) → In q ts → walk_in (without_walks k ts) q.seg ≡ None
 none_left k [] q m = absurd m
-none_left k (t ∷ ts) q (inl e) = still_none (with_walk_of k t.seg None) ts q.seg (subst (λ (p : ChainStep). walk_in (with_walk_of k t.seg None) p.seg ≡ None) (sym e) (gone_here k.walks t.seg.0))
+none_left k (t ∷ ts) q (inl e) = still_none (with_walk_of k t.seg None) ts q.seg (subst (λ (p : ChainStep). walk_in (with_walk_of k t.seg None) p.seg ≡ None) (sym e) (gone None k.walks t.seg.0))
 none_left k (t ∷ ts) q (inr m) = none_left (with_walk_of k t.seg None) ts q m
 
 pub same_walks_off : (k : Sketch) (ts : List ChainStep) (s : SegId) → IsOff ts s → walk_in (without_walks k ts) s ≡ walk_in k s
 same_walks_off k [] s off = refl
 same_walks_off k (t ∷ ts) s off =
     same_walks_off (with_walk_of k t.seg None) ts s (λ q m e. off q (inr m) e) ∙ get_or-set_other k.walks t.seg.0 s.0 None None (λ e. off t (inl refl) (sym e))
-
--- ---- runs
 
 -- a segment is on steps, or not
 pub on_or_off : (ts : List ChainStep) (s : SegId) → ((q : ChainStep) × In q ts × (q.seg.0 ≡ s.0)) ⊎ IsOff ts s
@@ -133,3 +125,38 @@ run_takable graph fit k c h run stands = record {
         by_run : ((q : ChainStep) × In q c.steps × (q.seg.0 ≡ t.0)) ⊎ IsOff c.steps t → ⊥
         by_run (inl (q, on, same)) = let none : None ≡ Some v = sym (none_left k c.steps q on) ∙ ap (λ j. get_or (without_walks k c.steps).walks j None) same ∙ e in cc
         by_run (inr off) = inner_off graph fit c.steps m (inner_of graph fit c.from c.steps run.steps m i) t (walk_below graph (without_walks k c.steps) legal t v e) off is_end
+
+-- ---- what stands on the board of a legal sketch lies near the origin, and its walks are short
+
+pub on_board_near : (b : Bounds) → AreBounds b → (p : GridPoint) → contains b p ≡ true → is_near 2000 p ≡ true
+on_board_near b h p e =
+    let i = inside_facts b p e in
+    and_from (nat_le (unsigned_abs p.x) 2000) (nat_le (unsigned_abs p.y) 2000)
+    (le-leb (unsigned_abs p.x) 2000 (omega (arith, ints, h.left.low, h.right.high, i.west, i.east))) (le-leb (unsigned_abs p.y) 2000 (omega (arith, ints, h.bottom.low, h.top.high, i.south, i.north)))
+
+-- ---- legal sketches
+
+module _ (graph : GraphParts) (k : Sketch) (h : IsLegalSketch graph k) where
+  pub stands_near : (n : ℕ) → is_standing k n ≡ true → is_near 2000 (point_of_node k n) ≡ true
+  stands_near n stands = on_board_near k.bounds h.bounds (point_of_node k n) (h.inside n stands)
+
+  pub walk_short : (s : SegId) (w : PlainWalk) → walk_in k s ≡ Some w → IsShort w
+  walk_short s w e = short_inside k.bounds h.bounds w (h.once s w e) (h.within s w e)
+
+-- ---- nodes that may be taken off stand
+
+stood_before : (graph : GraphParts) (k : Sketch) (n : NodeId) (m : ℕ) → IsLiftable graph k n → is_standing (lifted k n) m ≡ true → is_standing k m ≡ true
+stood_before graph k n m can e = by_number (cases_eq m n.0)
+  where
+    by_number : (m ≡ n.0) ⊎ (m ≡ n.0 → ⊥) → is_standing k m ≡ true
+    by_number (inl same) = ap (is_standing k) same ∙ can.stands
+    by_number (inr other) = sym (get_or-set_other k.stand n.0 m false false other) ∙ e
+
+pub liftable_stands : (graph : GraphParts) (k : Sketch) (ns : List NodeId) → AreLiftable graph k ns → (m : NodeId) → In m ns → is_standing k m.0 ≡ true
+liftable_stands graph k [] can m i = absurd i
+liftable_stands graph k (n ∷ ns) can m (inl e) = ap (λ (x : NodeId). is_standing k x.0) e ∙ can.0.stands
+liftable_stands graph k (n ∷ ns) can m (inr i) = stood_before graph k n m.0 can.0 (liftable_stands graph (lifted k n) ns can.1 m i)
+
+pub takable_stands : (graph : GraphParts) (k : Sketch) (c : Chain) → IsTakable graph k c → All (λ (n : NodeId). is_standing k n.0 ≡ true) (inner_nodes c.steps)
+takable_stands graph k c can = λ i d below.
+    ap (λ (fs : List Bool). get_or fs (get_or (inner_nodes c.steps) i d).0 false) (sym (same_stand k c.steps)) ∙ liftable_stands graph (without_walks k c.steps) (inner_nodes c.steps) can.inner (get_or (inner_nodes c.steps) i d) (in_at (inner_nodes c.steps) i d below)

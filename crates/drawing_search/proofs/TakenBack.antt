@@ -1,25 +1,12 @@
 -- Runs that were laid are taken away again: what stands then is what stood before.
-use Rattle.std.proofs.Common.{◌≡◌, refl, sym, ◌∙◌, ap, subst, ℕ, zero, suc, Bool, true, false, List, [], ◌∷◌, length, fold, get_or, set, Option, None, inl, inr, length-set, get_or-set_other}
-use Rattle.map_base.specs.declared.ids.NodeId.{NodeId}
-use Rattle.map_base.specs.declared.ids.SegId.{SegId}
-use Rattle.graph_core.specs.declared.parts.GraphParts.{GraphParts}
-use Rattle.graph_core.specs.Consistent.{IsConsistent}
-use Rattle.line_chains.specs.declared.chain.Chain.{Chain}
-use Rattle.line_chains.specs.declared.chain.ChainStep.{ChainStep}
-use Rattle.octi_grid.specs.Walks.{PlainWalk}
-use Rattle.octi_grid.proofs.Members.{In}
-use Rattle.segment_router.proofs.MaskLemmas.{ends_round}
-use Rattle.run_laying.specs.Attempts.{inner_nodes}
-use Rattle.run_laying.specs.Laying.{Sketch}
-use Rattle.run_laying.specs.Runs.{AreBeside, IsRun, MeetAlone}
-use Rattle.run_laying.specs.Sketches.{is_standing, lifted, walk_in, with_walk_of, IsEndOf, IsLegalSketch}
-use Rattle.run_laying.proofs.Attempted.{beside_off}
-use Rattle.run_laying.proofs.RunFacts.{inner_of, inner_off, step_of, IsInner}
-use Rattle.drawing_search.specs.Changes.{without_run, without_walks, AreLiftable, AreTakable, IsTakable}
+use Rattle.std.proofs.Common.{◌≡◌, refl, sym, ◌∙◌, ap, subst, ℕ, Bool, true, false, List, [], ◌∷◌, length, fold, get_or, Option, None, inl, inr, length-set, get_or-set_other}
+use Rattle.drawing_search.proofs.Common.{beside_off, ends_round, inner_nodes, inner_of, inner_off, is_standing, lifted}
+use Rattle.drawing_search.proofs.Common.{step_of, walk_in, with_walk_of, without_run, without_walks, AreBeside}
+use Rattle.drawing_search.proofs.Common.{AreLiftable, AreTakable, Chain, ChainStep, GraphParts, In, IsConsistent}
+use Rattle.drawing_search.proofs.Common.{IsEndOf, IsInner, IsLegalSketch, IsRun, IsTakable, MeetAlone, NodeId}
+use Rattle.drawing_search.proofs.Common.{PlainWalk, SegId, Sketch}
 use Rattle.drawing_search.proofs.Takable.{legal_without, none_left, run_takable, same_stand, same_walks_off, still_none}
-use Rattle.drawing_search.proofs.TakenOff.{lifted_legal}
-
--- ---- nodes
+use Rattle.drawing_search.proofs.TakenOff.{gone, lifted_legal, still_gone}
 
 -- node n is one of these
 abbrev pub IsOneOf : List NodeId → ℕ → Type 0
@@ -31,23 +18,11 @@ still_standing k (m ∷ ns) n off = still_standing (lifted k m) ns n (λ (p, i, 
 
 pub still_low : (k : Sketch) (ns : List NodeId) (n : ℕ) → is_standing k n ≡ false → is_standing (fold lifted k ns) n ≡ false
 still_low k [] n e = e
-still_low k (m ∷ ns) n e = still_low (lifted k m) ns n (lowered k.stand m.0 n e)
-  where
-    lowered : (flags : List Bool) (i j : ℕ) → get_or flags j false ≡ false → get_or (set flags i false) j false ≡ false
-    lowered [] i j e = e
-    lowered (b ∷ bs) zero zero e = refl
-    lowered (b ∷ bs) zero (suc j) e = e
-    lowered (b ∷ bs) (suc i) zero e = e
-    lowered (b ∷ bs) (suc i) (suc j) e = lowered bs i j e
+still_low k (m ∷ ns) n e = still_low (lifted k m) ns n (still_gone false k.stand m.0 n e)
 
 pub low_each : (k : Sketch) (ns : List NodeId) (n : ℕ) → IsOneOf ns n → is_standing (fold lifted k ns) n ≡ false
 low_each k [] n (m, i, e) = absurd i
-low_each k (p ∷ ns) n (m, inl same, e) = still_low (lifted k p) ns n (subst (λ j. is_standing (lifted k p) j ≡ false) (ap (λ (q : NodeId). q.0) (sym same) ∙ e) (gone k.stand p.0))
-  where
-    gone : (flags : List Bool) (i : ℕ) → get_or (set flags i false) i false ≡ false
-    gone [] i = refl
-    gone (b ∷ bs) zero = refl
-    gone (b ∷ bs) (suc i) = gone bs i
+low_each k (p ∷ ns) n (m, inl same, e) = still_low (lifted k p) ns n (subst (λ j. is_standing (lifted k p) j ≡ false) (ap (λ (q : NodeId). q.0) (sym same) ∙ e) (gone false k.stand p.0))
 low_each k (p ∷ ns) n (m, inr i, e) = low_each (lifted k p) ns n (m, i, e)
 
 pub lift_bounds : (k : Sketch) (ns : List NodeId) → (fold lifted k ns).bounds ≡ k.bounds
@@ -114,8 +89,6 @@ takable_each graph fit (c ∷ cs) k h runs beside stand =
     still : (d : Chain) → In d cs → (m : NodeId) → In m (inner_nodes d.steps) → is_standing (without_run k c) m.0 ≡ true
     still d i m j =
         run_stands k c m.0 (inner_beside graph fit c d (runs c (inl refl)) (runs d (inr i)) (λ q p on_c on_d. beside_off c cs beside d i q p on_c on_d) m j) ∙ stand d (inr i) m j
-
--- ---- what was laid is as it was but on the runs
 
 -- a node lies between the ends of one of these runs, and a segment is on one of them
 abbrev pub IsInnerOf : List Chain → ℕ → Type 0

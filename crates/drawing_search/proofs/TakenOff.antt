@@ -1,30 +1,28 @@
 -- A legal sketch from which a walk or a node is taken off: it stays legal, and its board is freed.
 use Rattle.std.proofs.Common.{◌≡◌, refl, sym, ◌∙◌, ap, subst, ℕ, zero, suc, ◌<◌, ◌≤◌, Bool, true, false, not, ◌&&◌, ◌||◌, is_some, List, [], ◌∷◌, length, get_or, set, Option, Some, None, ◌⊎◌, inl, inr, arith, length-set, get_or-set_other}
-use Rattle.std.proofs.lemmas.Bool.{and_from, and_parts, cases_Bool, cases_eq, cases_lt, not-true, or_cases, or_left, or_right, true≢false}
-use Rattle.std.proofs.lemmas.List.{get_or_past}
-use Rattle.std.specs.List.{list_any}
-use Rattle.map_base.specs.declared.ids.NodeId.{NodeId}
-use Rattle.map_base.specs.declared.ids.SegId.{SegId}
-use Rattle.graph_core.specs.declared.parts.GraphParts.{GraphParts}
-use Rattle.graph_core.specs.Consistent.{IsConsistent}
-use Rattle.line_chains.specs.Chains.{ends_of, round_of}
-use Rattle.octi_grid.specs.declared.point.GridPoint.{GridPoint}
-use Rattle.octi_grid.specs.Ways.{are_one, doubled}
-use Rattle.octi_grid.specs.Walks.{doubled_of, end_point, PlainWalk}
-use Rattle.octi_grid.specs.Legal.{is_among}
-use Rattle.octi_grid.proofs.Fronts.{clockwise_fewer, IsSameOrNone}
-use Rattle.octi_grid.proofs.Members.{among_from, any_at, any_from, are_one_from, one_point, same_test, In}
-use Rattle.grid_board.specs.Boards.{with_kept, without_walk}
-use Rattle.segment_router.specs.Routes.{has_doubled, port_at_node, port_by}
+use Rattle.line_chains.specs.Chains.{ends_of}
 use Rattle.segment_router.proofs.LaidLemmas.{end_on_way, start_on_way}
-use Rattle.segment_router.proofs.MaskLemmas.{ends_round}
-use Rattle.segment_router.proofs.Places.{seg_at}
-use Rattle.run_laying.specs.Laying.{board_of, board_under, Sketch}
-use Rattle.run_laying.specs.Sketches.{is_standing, lifted, point_of_node, walk_in, with_walk_of, IsEndOf, IsLegalSketch, IsMeeting}
-use Rattle.run_laying.proofs.RunFacts.{end_below, in_round}
-use Rattle.run_laying.proofs.Shown.{in_walks}
+use Rattle.drawing_search.proofs.Common.{among_from, and_from, and_parts, any_at, any_from, are_one, are_one_from}
+use Rattle.drawing_search.proofs.Common.{board_of, board_under, cases_Bool, cases_eq, cases_lt, clockwise_fewer}
+use Rattle.drawing_search.proofs.Common.{doubled, doubled_of, end_below, end_point, ends_round, get_or_past}
+use Rattle.drawing_search.proofs.Common.{has_doubled, in_round, in_walks, is_among, is_standing, lifted, list_any}
+use Rattle.drawing_search.proofs.Common.{not-true, one_point, or_cases, or_left, or_right, point_of_node, port_at_node}
+use Rattle.drawing_search.proofs.Common.{port_by, round_of, same_test, seg_at, true≢false, walk_in, with_kept}
+use Rattle.drawing_search.proofs.Common.{with_walk_of, without_walk, GraphParts, GridPoint, In, IsConsistent, IsEndOf}
+use Rattle.drawing_search.proofs.Common.{IsLegalSketch, IsMeeting, IsSameOrNone, NodeId, PlainWalk, SegId, Sketch}
 
--- ---- a walk
+-- what is taken from a list is gone, and stays so
+pub gone : {X : Type 0} (d : X) (xs : List X) (i : ℕ) → get_or (set xs i d) i d ≡ d
+gone d [] i = refl
+gone d (x ∷ xs) zero = refl
+gone d (x ∷ xs) (suc i) = gone d xs i
+
+pub still_gone : {X : Type 0} (d : X) (xs : List X) (i j : ℕ) → get_or xs j d ≡ d → get_or (set xs i d) j d ≡ d
+still_gone d [] i j e = e
+still_gone d (x ∷ xs) zero zero e = refl
+still_gone d (x ∷ xs) zero (suc j) e = e
+still_gone d (x ∷ xs) (suc i) zero e = e
+still_gone d (x ∷ xs) (suc i) (suc j) e = still_gone d xs i j e
 
 -- some segment round a node has a walk
 abbrev pub has_walk_at : GraphParts → Sketch → NodeId → Bool
@@ -38,13 +36,8 @@ module _ (graph : GraphParts) (fit : IsConsistent graph) (k : Sketch) (h : IsLeg
   left_walk : (t : SegId) (v : PlainWalk) → walk_in off t ≡ Some v → (t.0 ≡ s.0 → ⊥) × (walk_in k t ≡ Some v)
   left_walk t v e = by_number (cases_eq t.0 s.0)
     where
-      gone : (ws : List (Option PlainWalk)) (i : ℕ) → get_or (set ws i None) i None ≡ None
-      gone [] i = refl
-      gone (o ∷ ws) zero = refl
-      gone (o ∷ ws) (suc i) = gone ws i
-
       by_number : (t.0 ≡ s.0) ⊎ (t.0 ≡ s.0 → ⊥) → (t.0 ≡ s.0 → ⊥) × (walk_in k t ≡ Some v)
-      by_number (inl i) = let none : None ≡ Some v = sym (gone k.walks s.0) ∙ ap (λ j. get_or (set k.walks s.0 None) j None) (sym i) ∙ e in cc
+      by_number (inl i) = let none : None ≡ Some v = sym (gone None k.walks s.0) ∙ ap (λ j. get_or (set k.walks s.0 None) j None) (sym i) ∙ e in cc
       by_number (inr f) = (f, sym (get_or-set_other k.walks s.0 t.0 None None f) ∙ e)
 
   still_walk : (t : SegId) (v : PlainWalk) → (t.0 ≡ s.0 → ⊥) → walk_in k t ≡ Some v → walk_in off t ≡ Some v
@@ -204,8 +197,6 @@ module _ (graph : GraphParts) (fit : IsConsistent graph) (k : Sketch) (h : IsLeg
       is_node = (board_of k).is_node;
       is_taken = λ d. same_test ((board_of off).is_taken d) (freed d) (there d) (back d) i;
     }
-
--- ---- a node
 
 -- no walk ends at a node that is taken off
 pub lifted_legal : (graph : GraphParts) (k : Sketch) → IsLegalSketch graph k → (n : NodeId) → ((t : SegId) (v : PlainWalk) → walk_in k t ≡ Some v → IsEndOf graph t n.0 → ⊥) → IsLegalSketch graph (lifted k n)

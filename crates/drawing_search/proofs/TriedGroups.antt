@@ -1,27 +1,14 @@
 -- The attempts of a group, one after another, and groups after groups.
 use Rattle.std.proofs.Common.{◌≡◌, refl, sym, ◌∙◌, ap, ap₂, subst, ℕ, zero, suc, ◌+◌, ◌-◌, ◌*◌, ◌/◌, ◌%◌, ◌<◌, ◌≤◌, Bool, true, false, cond, eqb, nat_le, nat_lt, List, [], ◌∷◌, ◌++◌, length, drop, get_or, Option, Some, None, ◌⊎◌, inl, inr, arith}
-use Rattle.std.proofs.lemmas.Bool.{cases_lt, le-leb, leb-false, lt-leb, ltb-true, ne_eqb}
-use Rattle.std.proofs.lemmas.List.{drop_all, drop_more}
-use Rattle.std.specs.List.{flat_map, range_with_len}
-use Rattle.map_base.specs.declared.ids.NodeId.{NodeId}
-use Rattle.graph_core.specs.declared.parts.GraphParts.{GraphParts}
-use Rattle.line_chains.specs.declared.chain.Chain.{Chain}
-use Rattle.octi_grid.specs.declared.dir.Dir.{Dir}
+use Rattle.drawing_search.proofs.Common.{after_tries, after_try, attempt_by, attempted_on, attempts_by, attempts_in}
+use Rattle.drawing_search.proofs.Common.{attempts_of_length, cases_lt, direction, drop_all, drop_more, flat_map}
+use Rattle.drawing_search.proofs.Common.{if_below, le-leb, leb-false, lt-leb, ltb-true, ne_eqb, range_with_len}
+use Rattle.drawing_search.proofs.Common.{sketch_weight, tried, with_tried, without, All, AreApart, Attempt, CameOf}
+use Rattle.drawing_search.proofs.Common.{Chain, Dir, GraphParts, GridPoint, Group, IsFitting, IsLifted, IsSettled}
+use Rattle.drawing_search.proofs.Common.{IsTaken, IsTriedFrom, Lifted, NodeId, Scale, Sketch, Tried, Vector}
+use Rattle.drawing_search.proofs.AttemptCases.{lifted_alike}
+use Rattle.drawing_search.proofs.Lifts.{group_of, IsGroup}
 use Rattle.octi_grid.specs.declared.dir.Dir.TheVariants as dir
-use Rattle.octi_grid.specs.declared.point.GridPoint.{GridPoint}
-use Rattle.walk_search.specs.Moves.{direction}
-use Rattle.drawing_weights.specs.Scales.{Scale}
-use Rattle.run_laying.specs.Attempts.{attempted_on, Attempt}
-use Rattle.run_laying.specs.Laying.{Sketch}
-use Rattle.run_laying.specs.Searches.{attempts_by, attempts_of_length}
-use Rattle.drawing_search.specs.declared.group.Group.{Group}
-use Rattle.drawing_search.specs.declared.group.Vector.{Vector}
-use Rattle.drawing_search.specs.declared.lifting.Lifted.{Lifted}
-use Rattle.drawing_search.specs.Gains.{sketch_weight}
-use Rattle.drawing_search.specs.Lifting.{attempt_by, CameOf, IsLifted, IsTaken, IsTriedFrom}
-use Rattle.drawing_search.specs.Searched.{attempts_in}
-use Rattle.drawing_search.specs.Tries.{after_tries, after_try, if_below, tried, with_tried, without, IsSettled, Tried}
-use Rattle.drawing_search.proofs.Attempting.{lifted_alike}
 
 -- ---- the attempts of a group, by their numbers
 
@@ -139,8 +126,6 @@ module _ (scale : Scale) (graph : GraphParts) (first : List GridPoint) where
         same = λ s. rest.same (omega (arith, s, one.more, rest.more)) ∙ one.same (omega (arith, s, one.more, rest.more));
       }
 
-  -- ---- a group under way
-
   -- what its attempts change was taken off a drawing, from which those that are left come to what all of them come to
   pub record IsTrying (g : Group) (most : ℕ) (start : Tried) (i : ℕ) (k : Sketch) (weight made : ℕ) (l : Lifted) : Type 0 where
     pub whole : Sketch
@@ -200,3 +185,18 @@ module _ (scale : Scale) (graph : GraphParts) (first : List GridPoint) (g : Grou
         taken = record { settled = came.1; lifted = lifted; few = omega (arith, room) };
         is = sym (ap (λ b. cond b before (with_tried before (tried scale graph first whole (attempt_by g v)))) (lt-leb most made room) ∙ ap (with_tried before) came.0);
       })
+
+-- ---- a group of attempts that fit the graph is one whose runs and nodes can be taken off
+
+some_tried : (n : ℕ) → 0 < cond (eqb n 0) 1 (8 * n)
+some_tried zero = omega arith
+some_tried (suc n) = subst (λ b. 0 < cond b 1 (8 * suc n)) (sym (ne_eqb (suc n) 0 (λ e. absurd (omega (arith, e))))) (omega arith)
+
+pub group_is : (graph : GraphParts) (g : Group) → All (IsFitting graph) (attempts_in g) → AreApart g.nodes → IsGroup graph g.nodes g.runs
+group_is graph g fits apart = group_of graph (attempt_by g v) (subst (IsFitting graph) (attempt_at g 0 (attempt_by g v) v (some_tried g.lengths) refl refl) (fits 0 (attempt_by g v) many)) apart
+  where
+    v : Vector
+    v = record { dir = direction (0 % 8); count = cond (eqb g.lengths 0) 0 (2 * (0 / 8 + 1)) }
+
+    many : 0 < length (attempts_in g)
+    many = subst (λ n. 0 < n) (sym (attempts_many g)) (some_tried g.lengths)

@@ -7,7 +7,7 @@ ghost use Rattle.octi_grid.specs.Legal.{is_even};
 ghost use Rattle.run_laying.specs.Pieces.{cuts_at, even_places, point_at, reversed_walk};
 ghost use Rattle.drawing_search.specs.Tracks.{piece_along, IsTrack};
 
-use crate::points::push_points;
+use drawing_weights::push_points;
 use map_base::NoMemory;
 use octi_grid::{Dir, GridPoint, Run, Walk};
 use std::alloc::Global;

@@ -4,7 +4,6 @@
 //! more than what was there before.
 #![tactic(auto)]
 
-mod bounds;
 mod cutting;
 mod gains;
 mod group;
@@ -12,7 +11,6 @@ mod laying;
 mod least;
 mod lifting;
 mod pairs;
-mod points;
 mod searching;
 mod sketch;
 mod trying;

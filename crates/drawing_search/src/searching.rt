@@ -18,13 +18,12 @@ ghost use Rattle.drawing_search.specs.Searched.{attempts_of, IsSearched, IsSearc
 ghost use Rattle.drawing_search.specs.Shown.{whole_sketch};
 ghost use Rattle.drawing_search.specs.Trying.{walks_of, IsWhole};
 
-use crate::bounds::bounds_past;
 use crate::gains::Field;
 use crate::group::Group;
 use crate::pairs::Pairs;
 use crate::sketch::Sketch;
 use crate::trying::Search;
-use drawing_weights::{Weighing, points_of};
+use drawing_weights::{Weighing, bounds_past, points_of};
 use graph_core::LineGraph;
 use grid_board::Bounds;
 use map_base::{NoMemory, NodeId, SegId, Sequence};

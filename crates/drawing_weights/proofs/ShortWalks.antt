@@ -10,7 +10,7 @@ use Rattle.std.specs.List.{list_all, list_any, AllByRecursion, IsDistinct}
 use Rattle.octi_grid.specs.declared.dir.Dir.{Dir}
 use Rattle.octi_grid.specs.declared.point.GridPoint.{GridPoint}
 use Rattle.octi_grid.specs.Ways.{doubled, doubled_from, points_from, step_from}
-use Rattle.octi_grid.specs.Walks.{PlainWalk, doubled_of}
+use Rattle.octi_grid.specs.Walks.{PlainWalk, doubled_of, points_of}
 use Rattle.octi_grid.specs.Legal.{are_distinct}
 use Rattle.octi_grid.proofs.Members.{In}
 use Rattle.octi_grid.proofs.MeetsLemmas.{distinct_from, distinct_not_later, distinct_rest}
@@ -21,7 +21,7 @@ use Rattle.drawing_weights.specs.Drawn.{IsShort}
 use Rattle.grid_board.specs.Points.{are_near, is_near}
 
 -- a point of a way is there doubled
-doubled_there : (q p : GridPoint) (ds : List Dir) → In q (points_from p ds) → In (doubled q) (doubled_from p ds)
+pub doubled_there : (q p : GridPoint) (ds : List Dir) → In q (points_from p ds) → In (doubled q) (doubled_from p ds)
 doubled_there q p [] (inl e) = inl (ap doubled e)
 doubled_there q p [] (inr m) = absurd m
 doubled_there q p (d ∷ ds) (inl e) = inl (ap doubled e)
@@ -72,6 +72,9 @@ length-points : (p : GridPoint) (ds : List Dir) → length (points_from p ds) �
 length-points p [] = refl
 length-points p (d ∷ ds) = ap suc (length-points (step_from p d) ds)
 
+pub short_inside : (b : Bounds) → AreBounds b → (w : PlainWalk) → are_distinct (doubled_of w) ≡ true → list_all (contains b) (points_of w) ≡ true → IsShort w
+short_inside b h w once within = omega (arith, few_points b (points_of w) within (distinct_points w.start w.steps once), few_cells b h, length-points w.start w.steps)
+
 -- the widest board
 abbrev widest : Bounds
 widest = record { left = negsuc 1999; right = pos 2000; bottom = negsuc 1999; top = pos 2000 }
@@ -98,9 +101,7 @@ all_inside [] e = refl
 all_inside (p ∷ ps) e = let parts = and_parts _ _ e in and_from _ _ (near_inside p parts.0) (all_inside ps parts.1)
 
 pub short_walk : (w : PlainWalk) → are_distinct (doubled_of w) ≡ true → list_all (is_near 1904) (points_from w.start w.steps) ≡ true → IsShort w
-short_walk w e near =
-    let ps = points_from w.start w.steps in
-    omega (arith, few_points widest ps (all_inside ps near) (distinct_points w.start w.steps e), few_cells widest are_widest, length-points w.start w.steps)
+short_walk w e near = short_inside widest are_widest w e (all_inside (points_from w.start w.steps) near)
 
 pub short_walks : (ws : List PlainWalk) → AllByRecursion (λ (w : PlainWalk). are_distinct (doubled_of w) ≡ true) ws → are_near 1904 ws ≡ true → AllByRecursion IsShort ws
 short_walks [] all near = tt

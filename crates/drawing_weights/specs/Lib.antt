@@ -1,3 +1,4 @@
 pub mod Weights
 pub mod Drawn
 pub mod Scales
+pub mod Reach

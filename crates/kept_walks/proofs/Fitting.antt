@@ -27,8 +27,7 @@ use Rattle.run_laying.proofs.RunFacts.{end_below, in_round}
 use Rattle.walk_search.specs.Routes.{directions}
 use Rattle.drawing_search.proofs.Growing.{in_range}
 use Rattle.drawing_search.proofs.LaidAll.{last_end}
-use Rattle.drawing_search.proofs.Lifts.{from_map, in_mapped}
-use Rattle.drawing_search.proofs.Takable.{in_from}
+use Rattle.drawing_search.proofs.Takable.{from_map, in_from, in_mapped}
 use Rattle.kept_walks.specs.Straightening.{moves_of, moves_over, runs_at, single_runs, straight_attempts}
 use Rattle.kept_walks.proofs.ChainRuns.{chain_in, chain_is, chain_run, chain_way, corner_chains_beside, corners_has, from_range}
 use Rattle.kept_walks.proofs.Rounds.{alone_other, alone_turned}

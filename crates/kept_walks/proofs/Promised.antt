@@ -14,7 +14,7 @@ use Rattle.run_laying.specs.Attempts.{bounds_past, Attempt}
 use Rattle.drawing_search.specs.declared.searching.Searched.{Searched}
 use Rattle.drawing_search.specs.Searched.{IsSearched}
 use Rattle.drawing_search.proofs.RunReads.{near_more}
-use Rattle.drawing_search.proofs.Spans.{inside_near}
+use Rattle.drawing_weights.proofs.Spans.{inside_near}
 use Rattle.kept_walks.specs.Groups.{AreRunsOf}
 use Rattle.kept_walks.specs.Straightened.{IsStraightened}
 use Rattle.kept_walks.specs.Straightening.{straight_attempts, straight_scale}

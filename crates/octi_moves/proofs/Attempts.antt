@@ -1,29 +1,13 @@
 -- What comes of an attempt: a legal drawing on the board, in which one node has moved and the walks at it are new.
 use Rattle.std.proofs.Common.{◌≡◌, ◌∙◌, ℕ, zero, suc, ◌+◌, ◌≤◌, ◌<◌, Bool, true, false, cond, eqb, pos, List, [], ◌∷◌, length, get_or, slice_get, Option, Some, None, Result, Ok, Err, sym, ap, subst, refl, arith, ◌⊎◌, inl, inr}
-use Rattle.std.proofs.lemmas.Bool.{and_from, cases_Bool, eqb-true, or_cases}
-use Rattle.std.proofs.lemmas.Option.{slice_get-get_or}
-use Rattle.std.specs.List.{cons_option, filter_map, list_all}
-use Rattle.map_base.specs.declared.ids.NodeId.{NodeId}
-use Rattle.map_base.specs.declared.ids.SegId.{SegId}
-use Rattle.graph_core.specs.declared.parts.GraphParts.{GraphParts}
-use Rattle.graph_core.specs.Consistent.{IsConsistent}
-use Rattle.graph_core.specs.Round.{ends_at, segments_at, segments_from}
-use Rattle.octi_grid.specs.declared.point.GridPoint.{GridPoint}
-use Rattle.octi_grid.specs.Walks.{end_point, points_of, PlainWalk}
-use Rattle.octi_grid.specs.Legal.{is_even}
-use Rattle.octi_grid.proofs.Members.{In}
-use Rattle.grid_board.specs.declared.bounds.Bounds.{Bounds}
-use Rattle.grid_board.specs.Boards.{contains, AreBounds}
 use Rattle.segment_router.specs.Routes.{ends_of, node_point, route_each, walk_at, walks_of, Routed}
-use Rattle.segment_router.specs.Standing.{if_routed}
 use Rattle.segment_router.proofs.Again.{again}
 use Rattle.segment_router.proofs.LegalRoutes.{all_kept, all_legal, done, AllThere, AreAll, HasWalk, IsDone}
-use Rattle.segment_router.proofs.Places.{seg_at}
-use Rattle.drawing_weights.specs.Weights.{point_of}
-use Rattle.drawing_weights.specs.Drawn.{IsDrawn}
-use Rattle.drawing_weights.proofs.DrawnFacts.{leg_in, no_ends, point_by, round_there}
-use Rattle.octi_moves.specs.Moves.{may_stand, moved_to, taken_away}
-use Rattle.octi_moves.specs.Standing.{stay_within}
+use Rattle.octi_moves.proofs.Common.{and_from, cases_Bool, cons_option, contains, end_point, ends_at, eqb-true}
+use Rattle.octi_moves.proofs.Common.{filter_map, if_routed, is_even, leg_in, list_all, may_stand, moved_to, no_ends}
+use Rattle.octi_moves.proofs.Common.{or_cases, point_by, point_of, points_of, round_there, seg_at, segments_at}
+use Rattle.octi_moves.proofs.Common.{segments_from, slice_get-get_or, stay_within, taken_away, AreBounds, Bounds}
+use Rattle.octi_moves.proofs.Common.{GraphParts, GridPoint, In, IsConsistent, IsDrawn, NodeId, PlainWalk, SegId}
 use Rattle.octi_moves.proofs.KeptWalks.{kept_there}
 use Rattle.octi_moves.proofs.TakenAway.{all_settled, clockwise, first_bounds, first_within, laid}
 

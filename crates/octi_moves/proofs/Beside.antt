@@ -1,14 +1,8 @@
 -- A point is on a walk beside a node where it is among the grid points of all such walks.
 use Rattle.std.proofs.Common.{◌≡◌, ◌∙◌, ℕ, Bool, true, false, not, cond, ◌&&◌, ◌||◌, List, [], ◌∷◌, ap, refl}
-use Rattle.std.specs.List.{flat_map, list_any}
 use Rattle.std.proofs.lemmas.List.Folds.{list_any-append}
-use Rattle.graph_core.specs.Round.{ends_at}
-use Rattle.octi_grid.specs.declared.point.GridPoint.{GridPoint}
-use Rattle.octi_grid.specs.Ways.{are_one}
-use Rattle.octi_grid.specs.Legal.{is_among, Leg}
-use Rattle.octi_grid.specs.Walks.{points_of}
-use Rattle.octi_moves.specs.Lightest.{points_beside}
-use Rattle.octi_moves.specs.Moves.{is_in_the_way}
+use Rattle.octi_moves.proofs.Common.{are_one, ends_at, flat_map, is_among, is_in_the_way, list_any, points_beside}
+use Rattle.octi_moves.proofs.Common.{points_of, GridPoint, Leg}
 
 one_beside : (n : ℕ) (p : GridPoint) (l : Leg) → is_among (points_beside n l) p ≡ is_in_the_way n p l
 one_beside n p l = by_test (ends_at n l.0)

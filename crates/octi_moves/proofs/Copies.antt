@@ -1,13 +1,11 @@
 -- A walk of the runs of another is that walk.
 use Rattle.std.proofs.Common.{◌≡◌, ◌∙◌, true, List, length, ap, sym, subst, Some, None, cond}
-use Rattle.std.proofs.lemmas.Bool.{and_from, lt-ltb}
-use Rattle.octi_grid.specs.declared.dir.Dir.{Dir}
-use Rattle.octi_grid.specs.declared.point.GridPoint.{GridPoint}
 use Rattle.octi_grid.specs.declared.walk.Run.{Run}
 use Rattle.octi_grid.specs.Runs.{are_runs, steps_of}
-use Rattle.octi_grid.specs.Walks.{points_of, walk_by, walk_of, IsWalk, PlainWalk}
+use Rattle.octi_grid.specs.Walks.{walk_of}
 use Rattle.octi_grid.proofs.RunLemmas.{runs-some}
 use Rattle.octi_grid.proofs.WayLemmas.{test-from_All}
+use Rattle.octi_moves.proofs.Common.{and_from, lt-ltb, points_of, walk_by, Dir, GridPoint, IsWalk, PlainWalk}
 
 pub walk_again : (w : PlainWalk) (start : GridPoint) (runs : List Run) → start ≡ w.start → steps_of runs ≡ w.steps → are_runs runs ≡ true → IsWalk w → walk_by start runs ≡ Some w
 walk_again w start runs e f r walk =

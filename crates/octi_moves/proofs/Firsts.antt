@@ -1,14 +1,8 @@
 -- The first improving attempt, one attempt after another.
 use Rattle.std.proofs.Common.{◌≡◌, ◌∙◌, ℕ, ◌+◌, ◌≤◌, ◌<◌, true, false, List, drop, get_or, length, Option, Some, None, option_map, ap, refl, arith}
-use Rattle.std.specs.Prelude.{is_some}
-use Rattle.std.specs.List.{range_with_len}
-use Rattle.std.proofs.lemmas.List.{drop_all, drop_more}
-use Rattle.std.proofs.lemmas.List.FromFn.{get_or-range_with_len, length-range_with_len}
-use Rattle.graph_core.specs.declared.parts.GraphParts.{GraphParts}
-use Rattle.octi_grid.specs.declared.dir.Dir.{Dir}
-use Rattle.octi_grid.specs.Walks.{PlainWalk}
-use Rattle.walk_search.specs.Routes.{directions}
-use Rattle.octi_moves.specs.Moves.{attempt, board_bounds, first_of_node, first_of_nodes, if_lighter, or_next}
+use Rattle.octi_moves.proofs.Common.{attempt, board_bounds, directions, drop_all, drop_more, first_of_node}
+use Rattle.octi_moves.proofs.Common.{first_of_nodes, get_or-range_with_len, if_lighter, is_some, length-range_with_len}
+use Rattle.octi_moves.proofs.Common.{or_next, range_with_len, Dir, GraphParts, PlainWalk}
 
 -- of two the one that is there
 pub next_some : {V : Type 0} (o : Option V) (items : V → List PlainWalk) (rest : Option (List PlainWalk)) → is_some o ≡ true → or_next (option_map items o) rest ≡ option_map items o

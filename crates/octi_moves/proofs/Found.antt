@@ -1,20 +1,10 @@
 -- The walks that are found by a move stand on the field, and are lighter.
 use Rattle.std.proofs.Common.{◌≡◌, ◌∙◌, ℕ, ◌<◌, Bool, true, false, cond, ltb, List, [], ◌∷◌, length, Option, Some, None, ap, refl, subst, arith, inl, inr}
-use Rattle.std.specs.List.{range_with_len}
-use Rattle.std.proofs.lemmas.Bool.{ltb-true}
-use Rattle.std.proofs.lemmas.List.FromFn.{get_or-range_with_len, length-range_with_len}
-use Rattle.std.proofs.lemmas.Option.{get_or_from_slice_get}
-use Rattle.graph_core.specs.declared.parts.GraphParts.{GraphParts}
-use Rattle.octi_grid.specs.declared.dir.Dir.{Dir}
-use Rattle.octi_grid.specs.Walks.{PlainWalk}
-use Rattle.octi_grid.proofs.Members.{In}
-use Rattle.grid_board.specs.declared.bounds.Bounds.{Bounds}
-use Rattle.walk_search.specs.Routes.{directions}
-use Rattle.segment_router.proofs.Places.{place_of}
-use Rattle.drawing_weights.specs.Weights.{point_of, weight_of}
-use Rattle.octi_moves.specs.declared.field.Field.{Field}
-use Rattle.octi_moves.specs.Moves.{attempt, board_bounds, first_of_node, first_of_nodes, if_lighter, may_stand, moved, moved_to, next_of, or_next}
-use Rattle.octi_moves.specs.Standing.{IsField, IsStanding}
+use Rattle.octi_moves.proofs.Common.{attempt, board_bounds, directions, first_of_node, first_of_nodes}
+use Rattle.octi_moves.proofs.Common.{get_or-range_with_len, get_or_from_slice_get, if_lighter, length-range_with_len}
+use Rattle.octi_moves.proofs.Common.{ltb-true, may_stand, moved, moved_to, next_of, or_next, place_of, point_of}
+use Rattle.octi_moves.proofs.Common.{range_with_len, weight_of, Bounds, Dir, Field, GraphParts, In, IsField, IsStanding}
+use Rattle.octi_moves.proofs.Common.{PlainWalk}
 use Rattle.octi_moves.proofs.MovedUse.{moved_standing, moves_even}
 
 -- what is lighter is what came of the attempt

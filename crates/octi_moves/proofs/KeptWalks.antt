@@ -1,16 +1,8 @@
 -- The walks that are kept where a node moves.
 use Rattle.std.proofs.Common.{◌≡◌, ◌∙◌, ℕ, zero, suc, ◌<◌, Bool, true, false, cond, List, [], ◌∷◌, length, map, fold, get_or, slice_get, Option, Some, None, ap, subst, refl, arith}
-use Rattle.std.proofs.lemmas.Bool.{or_left, or_right}
-use Rattle.std.specs.List.{zip}
-use Rattle.map_base.specs.declared.ids.NodeId.{NodeId}
-use Rattle.graph_core.specs.Round.{ends_at}
-use Rattle.octi_grid.specs.declared.point.GridPoint.{GridPoint}
-use Rattle.octi_grid.specs.Walks.{PlainWalk, doubled_of}
-use Rattle.octi_grid.proofs.Members.{among_from, In}
-use Rattle.grid_board.specs.Boards.{BoardParts, IsBoard}
 use Rattle.grid_board.proofs.OnBoards.{board_with_walk}
-use Rattle.segment_router.specs.Standing.{with_standing}
-use Rattle.octi_moves.specs.Moves.{kept_walk}
+use Rattle.octi_moves.proofs.Common.{among_from, doubled_of, ends_at, kept_walk, or_left, or_right, with_standing, zip}
+use Rattle.octi_moves.proofs.Common.{BoardParts, GridPoint, In, IsBoard, NodeId, PlainWalk}
 
 -- a walk that is kept
 pub record Kept (n : ℕ) (es : List (NodeId × NodeId)) (ws : List PlainWalk) (i : ℕ) (w : PlainWalk) : Type 0 where

@@ -1,10 +1,8 @@
+mod Common
 pub mod Nearer
-mod BoundParts
-mod FieldFacts
 mod FieldUse
 mod KeptWalks
 mod Copies
-mod Trails
 mod Ranges
 mod SegmentsAt
 mod RoundSums

@@ -1,33 +1,19 @@
 -- An attempt after which a node and the walks at it can't weigh less makes no drawing lighter.
 use Rattle.std.proofs.Common.{◌≡◌, ◌∙◌, ℕ, zero, suc, ◌+◌, ◌≤◌, ◌<◌, Bool, true, false, cond, eqb, List, [], ◌∷◌, length, get_or, slice_get, Option, Some, None, ◌||◌, ℤ, ◌-ℤ◌, if◌then◌else◌, sym, ap, ap₂, subst, refl, arith, ◌⊎◌, inl, inr}
-use Rattle.std.proofs.lemmas.Bool.{cases_Bool, cases_eq, cases_lt, eqb-true, le-ltb, or_cases}
-use Rattle.std.specs.Prelude.{unsigned_abs}
 use Rattle.std.proofs.lemmas.Int.{ints}
 use Rattle.std.proofs.lemmas.List.Sorted.{sum_by-IsPermutation}
 use Rattle.std.proofs.lemmas.List.Sums.{sum_by-cons}
-use Rattle.std.proofs.lemmas.Option.{get_or_from_slice_get}
-use Rattle.std.specs.List.{range_with_len, sum_by}
-use Rattle.map_base.specs.declared.ids.NodeId.{NodeId}
-use Rattle.map_base.specs.declared.ids.SegId.{SegId}
-use Rattle.graph_core.specs.declared.parts.GraphParts.{GraphParts}
-use Rattle.graph_core.specs.Consistent.{IsConsistent}
-use Rattle.graph_core.specs.Round.{ends_at, segments_at, segments_from}
-use Rattle.octi_grid.specs.declared.point.GridPoint.{GridPoint}
-use Rattle.octi_grid.specs.Walks.{end_point, PlainWalk}
-use Rattle.octi_grid.specs.Legal.{is_even, legs_of, Leg}
-use Rattle.octi_grid.proofs.Members.{In}
-use Rattle.grid_board.specs.declared.bounds.Bounds.{Bounds}
-use Rattle.grid_board.specs.Boards.{AreBounds}
 use Rattle.walk_search.specs.Reaching.{across}
-use Rattle.segment_router.proofs.Places.{seg_at}
-use Rattle.drawing_weights.specs.Weights.{apart_weight, least_weight, nodes_weight, point_of, walk_weight, walks_weight, weight_of}
-use Rattle.drawing_weights.specs.Drawn.{IsDrawn}
-use Rattle.drawing_weights.proofs.DrawnFacts.{leg_in, low_put, no_ends, no_way, up_put}
 use Rattle.drawing_weights.proofs.LeastWeights.{no_less}
 use Rattle.drawing_weights.proofs.Sums.{sum_more}
-use Rattle.octi_moves.specs.Lightest.{least_after, other_end, round_of, walk_of, weight_at}
-use Rattle.octi_moves.specs.Moves.{if_lighter, may_stand, moved_to}
-use Rattle.octi_moves.specs.Standing.{stay_within}
+use Rattle.octi_moves.specs.Lightest.{walk_of}
+use Rattle.octi_moves.proofs.Common.{apart_weight, cases_Bool, cases_eq, cases_lt, end_point, ends_at, eqb-true}
+use Rattle.octi_moves.proofs.Common.{get_or_from_slice_get, if_lighter, is_even, le-ltb, least_after, least_weight}
+use Rattle.octi_moves.proofs.Common.{leg_in, legs_of, low_put, may_stand, moved_to, no_ends, no_way, nodes_weight}
+use Rattle.octi_moves.proofs.Common.{or_cases, other_end, point_of, range_with_len, round_of, seg_at, segments_at}
+use Rattle.octi_moves.proofs.Common.{segments_from, stay_within, sum_by, unsigned_abs, up_put, walk_weight}
+use Rattle.octi_moves.proofs.Common.{walks_weight, weight_at, weight_of, AreBounds, Bounds, GraphParts, GridPoint, In}
+use Rattle.octi_moves.proofs.Common.{IsConsistent, IsDrawn, Leg, NodeId, PlainWalk, SegId}
 use Rattle.octi_moves.proofs.Attempts.{is_moved, IsMoved}
 use Rattle.octi_moves.proofs.TakenAway.{other_point, own_point}
 

@@ -1,33 +1,14 @@
 -- What a move asks for and gives, on a field.
-use Rattle.std.proofs.Common.{◌≡◌, ℕ, ◌≤◌, ◌<◌, Bool, true, false, cond, List, [], ◌∷◌, get_or, length, map, Option, Some, None, option_map, Result, Ok, Err, sym, subst, refl, arith}
-use Rattle.std.specs.Option.{IfSome}
+use Rattle.std.proofs.Common.{◌≡◌, ℕ, ℤ, ◌+ℤ◌, ◌%◌, ◌≤◌, ◌<◌, Bool, true, false, cond, eqb, List, [], ◌∷◌, get_or, length, map, Option, Some, None, option_map, Result, Ok, Err, sym, subst, refl, arith}
 use Rattle.std.specs.Result.{IfOk}
-use Rattle.std.specs.List.{list_all, zip}
-use Rattle.std.proofs.lemmas.Bool.{and_from, and_parts, leb-true}
-use Rattle.std.specs.Prelude.{nat_le, unsigned_abs}
-use Rattle.map_base.specs.declared.ids.NodeId.{NodeId}
-use Rattle.map_base.specs.declared.ids.SegId.{SegId}
-use Rattle.graph_core.specs.Round.{ends_at, segments_at}
-use Rattle.octi_grid.specs.declared.dir.Dir.{Dir}
-use Rattle.octi_grid.specs.declared.point.GridPoint.{GridPoint}
-use Rattle.octi_grid.specs.Ways.{IsWithin}
-use Rattle.octi_grid.specs.Walks.{points_of, PlainWalk}
-use Rattle.octi_grid.specs.Legal.{is_even}
-use Rattle.octi_grid.proofs.Members.{In}
-use Rattle.grid_board.specs.declared.bounds.Bounds.{Bounds}
-use Rattle.grid_board.specs.Boards.{contains}
-use Rattle.grid_board.specs.Points.{is_near}
-use Rattle.segment_router.specs.Standing.{are_inside, standing}
-use Rattle.segment_router.specs.Underway.{IsUnderway}
-use Rattle.segment_router.proofs.Places.{in_at}
-use Rattle.drawing_weights.specs.Weights.{point_of}
-use Rattle.drawing_weights.proofs.DrawnFacts.{node_even, node_holds}
-use Rattle.octi_moves.specs.declared.field.Field.{Field}
-use Rattle.octi_moves.specs.Lightest.{least_after, weight_at}
-use Rattle.octi_moves.specs.Moves.{attempt, if_lighter, kept_walk, kept_walks, may_stand, moved, moved_to, points_with}
-use Rattle.octi_moves.specs.Standing.{stay_within, IsField, IsStanding}
+use Rattle.std.proofs.lemmas.Int.{ints}
+use Rattle.octi_moves.proofs.Common.{and_from, and_parts, are_inside, attempt, contains, east_of, ends_at, eq-eqb}
+use Rattle.octi_moves.proofs.Common.{eqb-true, if_lighter, in_at, is_even, is_near, kept_walk, kept_walks, least_after}
+use Rattle.octi_moves.proofs.Common.{leb-true, list_all, may_stand, moved, moved_to, nat_le, node_even, node_holds}
+use Rattle.octi_moves.proofs.Common.{north_of, point_of, points_of, points_with, segments_at, standing, stay_within}
+use Rattle.octi_moves.proofs.Common.{unsigned_abs, weight_at, zip, Bounds, Dir, Field, GridPoint, IfSome, In, IsField}
+use Rattle.octi_moves.proofs.Common.{IsStanding, IsUnderway, IsWithin, NodeId, PlainWalk, SegId}
 use Rattle.octi_moves.proofs.Attempts.{is_moved, segs_below}
-use Rattle.octi_moves.proofs.FieldFacts.{moved_even}
 use Rattle.octi_moves.proofs.FieldUse.{bounds_fit, walks_near}
 use Rattle.octi_moves.proofs.Lighter.{cannot_improve}
 use Rattle.octi_moves.proofs.TakenAway.{points_even, points_within, underway}
@@ -53,6 +34,15 @@ all_inside bounds n (e ∷ es) (w ∷ ws) h =
     by_test : (b : Bool) → list_all (contains bounds) (points_of w) ≡ true → are_inside bounds (cond b None (Some w)) ≡ true
     by_test true k = refl
     by_test false k = k
+
+-- two steps keep a point even
+even_twice : (x e : ℤ) → unsigned_abs x % 2 ≡ 0 → unsigned_abs ((x +ℤ e) +ℤ e) % 2 ≡ 0
+even_twice x e h = omega (arith, ints)
+
+moved_even : (p : GridPoint) (d : Dir) → is_even p ≡ true → is_even (moved p d) ≡ true
+moved_even p d e =
+    let parts = and_parts (eqb (unsigned_abs p.x % 2) 0) (eqb (unsigned_abs p.y % 2) 0) e in
+    and_from _ _ (eq-eqb _ _ (even_twice p.x (east_of d) (eqb-true _ _ parts.0))) (eq-eqb _ _ (even_twice p.y (north_of d) (eqb-true _ _ parts.1)))
 
 small : (x : ℕ) → x ≤ 1904 → x ≤ 10000
 small x h = omega (arith, h)

@@ -1,17 +1,10 @@
 -- Moves under way.
 use Rattle.std.proofs.Common.{◌≡◌, ◌∙◌, ℕ, zero, suc, ◌+◌, ◌-◌, ◌≤◌, ◌<◌, true, List, Some, None, length, sym, ap, subst, refl, arith, ◌⊎◌, inl, inr}
-use Rattle.graph_core.specs.declared.parts.GraphParts.{GraphParts}
-use Rattle.octi_grid.specs.Walks.{PlainWalk}
-use Rattle.octi_grid.specs.Legal.{legal}
-use Rattle.grid_board.specs.declared.bounds.Bounds.{Bounds}
-use Rattle.grid_board.specs.Points.{are_near}
-use Rattle.drawing_weights.specs.Weights.{weight_of}
-use Rattle.octi_moves.specs.declared.field.Field.{Field}
+use Rattle.drawing_weights.proofs.Spans.{first_within, within_near}
 use Rattle.octi_moves.specs.declared.improved.Improved.{Improved}
 use Rattle.octi_moves.specs.Improving.{IsImproved}
-use Rattle.octi_moves.specs.Moves.{after_move, improved, moved_by, next_of, one_more, Moved}
-use Rattle.octi_moves.specs.Standing.{stay_within, IsField, IsStanding}
-use Rattle.octi_moves.proofs.FieldFacts.{first_stands, standing_near}
+use Rattle.octi_moves.proofs.Common.{after_move, are_near, improved, legal, moved_by, next_of, one_more, stay_within}
+use Rattle.octi_moves.proofs.Common.{weight_of, Bounds, Field, GraphParts, IsField, IsStanding, Moved, PlainWalk}
 
 -- so many moves were made of a number, and so much does the drawing weigh now
 pub record IsMoving (f : Field) (moves made : ℕ) (walks : List PlainWalk) (before after : ℕ) : Type 0 where
@@ -32,7 +25,7 @@ moving_begins f fit moves walks is weight e =
     let all : moves - 0 ≡ moves = omega arith in
     subst (λ (ws : List PlainWalk). IsMoving f moves 0 ws weight weight) (sym is)
     (record {
-      standing = record { drawn = fit.drawn; within = ap (λ (b : Bounds). stay_within b f.first.now) fit.bounds ∙ first_stands f.first.now fit.near };
+      standing = record { drawn = fit.drawn; within = ap (λ (b : Bounds). stay_within b f.first.now) fit.bounds ∙ first_within f.first.now fit.near 4 (omega arith) };
       begun = e;
       weight = e;
       no_heavier = omega arith;
@@ -78,7 +71,7 @@ ended f fit moves made walks before after m end i a b c d =
       after = d ∙ m.weight ∙ ap (weight_of f.graph.now f.first.now) (sym a);
       legal = ap (legal f.graph.now) a ∙ m.standing.drawn.legal;
       each = ap length a ∙ m.standing.drawn.each;
-      near = λ most near. ap (are_near (most + 4)) a ∙ standing_near most f.first.now near walks (subst (λ (v : Bounds). stay_within v walks ≡ true) fit.bounds m.standing.within);
+      near = λ most near. ap (are_near (most + 4)) a ∙ within_near most 4 f.first.now near walks (subst (λ (v : Bounds). stay_within v walks ≡ true) fit.bounds m.standing.within);
       no_heavier = omega (arith, c, d, m.no_heavier);
       to_the_end = by_last end;
     }

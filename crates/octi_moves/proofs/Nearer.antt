@@ -1,12 +1,7 @@
 -- What lies within some steps of the origin lies within more.
 use Rattle.std.proofs.Common.{◌≡◌, ℕ, ◌≤◌, true, List, arith}
-use Rattle.std.specs.Prelude.{nat_le, unsigned_abs}
-use Rattle.std.specs.List.{list_all}
-use Rattle.std.proofs.lemmas.Bool.{and_from, and_parts, le-leb, leb-true}
-use Rattle.octi_grid.specs.declared.point.GridPoint.{GridPoint}
-use Rattle.octi_grid.specs.Walks.{points_of, PlainWalk}
-use Rattle.octi_grid.proofs.Members.{all_at, all_from}
-use Rattle.grid_board.specs.Points.{are_near, is_near}
+use Rattle.octi_moves.proofs.Common.{all_at, all_from, and_from, and_parts, are_near, is_near, le-leb, leb-true}
+use Rattle.octi_moves.proofs.Common.{list_all, nat_le, points_of, unsigned_abs, GridPoint, PlainWalk}
 
 point_near : (few most : ℕ) (p : GridPoint) → few ≤ most → is_near few p ≡ true → is_near most p ≡ true
 point_near few most p h e =

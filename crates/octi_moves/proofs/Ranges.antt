@@ -1,8 +1,7 @@
 -- A test of numbers in a row, one by one.
 use Rattle.std.proofs.Common.{◌≡◌, ◌∙◌, ℕ, ◌+◌, ◌≤◌, ◌<◌, Bool, false, ◌||◌, drop, get_or, ap, arith}
-use Rattle.std.specs.List.{list_any, range_with_len}
-use Rattle.std.proofs.lemmas.List.{drop_all, drop_more}
-use Rattle.std.proofs.lemmas.List.FromFn.{get_or-range_with_len, length-range_with_len}
+use Rattle.octi_moves.proofs.Common.{drop_all, drop_more, get_or-range_with_len, length-range_with_len, list_any}
+use Rattle.octi_moves.proofs.Common.{range_with_len}
 
 -- the test of number m, and of those after it
 pub any_more : (test : ℕ → Bool) (n m : ℕ) → m < n → list_any test (drop m (range_with_len 0 n)) ≡ (test m || list_any test (drop (m + 1) (range_with_len 0 n)))

@@ -1,25 +1,15 @@
 -- Sums over the segments round a node.
 use Rattle.std.proofs.Common.{◌≡◌, ◌∙◌, ℕ, suc, ◌+◌, ◌≤◌, ◌<◌, Bool, true, false, cond, eqb, pos, List, [], ◌∷◌, drop, get_or, length, slice_get, Some, refl, sym, ap, subst, arith}
-use Rattle.std.specs.List.{sum_by}
-use Rattle.std.proofs.lemmas.List.{drop_all, drop_more}
 use Rattle.std.proofs.lemmas.List.Elements.{All-from_recursion}
 use Rattle.std.proofs.lemmas.List.Sorted.{length_permutation}
 use Rattle.std.proofs.lemmas.List.Sums.{sum_by-cons}
-use Rattle.std.proofs.lemmas.List.FromFn.{get_or-map-range_with_len}
-use Rattle.std.proofs.lemmas.Option.{get_or_from_slice_get, slice_get_read}
-use Rattle.map_base.specs.declared.ids.NodeId.{NodeId}
-use Rattle.map_base.specs.declared.ids.SegId.{SegId}
-use Rattle.graph_core.specs.declared.parts.GraphParts.{GraphParts}
-use Rattle.graph_core.specs.Consistent.{IsConsistent}
-use Rattle.graph_core.specs.Round.{ends_at, segments_at, segments_from}
-use Rattle.octi_grid.specs.declared.point.GridPoint.{GridPoint}
-use Rattle.octi_grid.specs.Walks.{PlainWalk}
-use Rattle.drawing_weights.specs.Drawn.{points_all, IsDrawn, IsShort}
-use Rattle.drawing_weights.specs.Weights.{point_of}
-use Rattle.drawing_weights.proofs.DrawnFacts.{no_ends, no_way, round_there, walks_once}
 use Rattle.drawing_weights.proofs.ShortWalks.{short_walks}
-use Rattle.grid_board.specs.Points.{are_near}
-use Rattle.octi_moves.specs.Lightest.{ends_of, other_end, point_at, round_of, walk_of}
+use Rattle.octi_moves.specs.Lightest.{walk_of}
+use Rattle.octi_moves.proofs.Common.{are_near, drop_all, drop_more, ends_at, ends_of, get_or-map-range_with_len}
+use Rattle.octi_moves.proofs.Common.{get_or_from_slice_get, no_ends, no_way, other_end, point_at, point_of, points_all}
+use Rattle.octi_moves.proofs.Common.{round_of, round_there, segments_at, segments_from, slice_get_read, sum_by}
+use Rattle.octi_moves.proofs.Common.{walks_once, GraphParts, GridPoint, IsConsistent, IsDrawn, IsShort, NodeId}
+use Rattle.octi_moves.proofs.Common.{PlainWalk, SegId}
 
 -- the sum of an element and of those after it
 pub sum_next : (f : SegId → ℕ) (xs : List SegId) (i : ℕ) (d : SegId) → i < length xs → sum_by f (drop i xs) ≡ f (get_or xs i d) + sum_by f (drop (i + 1) xs)

@@ -1,11 +1,6 @@
 -- The segments at a node, one by one.
 use Rattle.std.proofs.Common.{◌≡◌, ◌∙◌, ℕ, ◌+◌, ◌<◌, Bool, true, false, cond, List, [], ◌∷◌, ◌++◌, append_assoc, drop, get_or, length, sym, ap, refl}
-use Rattle.std.proofs.lemmas.List.{drop_more}
-use Rattle.map_base.specs.declared.ids.NodeId.{NodeId}
-use Rattle.map_base.specs.declared.ids.SegId.{SegId}
-use Rattle.graph_core.specs.Round.{ends_at, segments_from}
-use Rattle.segment_router.proofs.Places.{seg_at}
-use Rattle.drawing_weights.proofs.DrawnFacts.{no_ends}
+use Rattle.octi_moves.proofs.Common.{drop_more, ends_at, no_ends, seg_at, segments_from, NodeId, SegId}
 
 pub segs_more : (n : ℕ) (es : List (NodeId × NodeId)) (s : ℕ) (old : List SegId) → s < length es
     → cond (ends_at n (get_or es s no_ends)) (old ++ seg_at s ∷ []) old ++ segments_from (s + 1) n (drop (s + 1) es) ≡ old ++ segments_from s n (drop s es)

@@ -1,39 +1,28 @@
 -- A node that stands at a free point, with the walks at it taken away: what routing begins with there.
 use Rattle.std.proofs.Common.{◌≡◌, ◌∙◌, ℕ, ◌+◌, ◌≤◌, ◌<◌, true, false, not, ◌||◌, eqb, pos, List, [], length, get_or, slice_get, Some, None, sym, ap, subst, arith, ◌⊎◌, inl, inr}
-use Rattle.std.specs.List.{list_all, range_with_len, filter_map}
-use Rattle.std.proofs.lemmas.Bool.{and_from, and_parts, cases_eq, cases_lt, eqb-true, eq-eqb, ne_eqb, not-true, or_cases, or_left, or_right, true≢false}
-use Rattle.std.proofs.lemmas.List.{get_or_default, get_or-replicate, get_or-set_other, get_or-set_same, length-replicate, length-set}
-use Rattle.std.proofs.lemmas.List.FromFn.{get_or-map-range_with_len, get_or-range_with_len, length-map-range_with_len, length-range_with_len}
-use Rattle.std.proofs.lemmas.Option.{get_or_from_slice_get}
-use Rattle.map_base.specs.declared.ids.NodeId.{NodeId}
-use Rattle.map_base.specs.declared.ids.SegId.{SegId}
-use Rattle.graph_core.specs.declared.parts.GraphParts.{GraphParts}
-use Rattle.graph_core.specs.Consistent.{IsConsistent}
-use Rattle.graph_core.specs.Round.{ends_at}
-use Rattle.octi_grid.specs.declared.point.GridPoint.{GridPoint}
-use Rattle.octi_grid.specs.Ways.{doubled}
-use Rattle.octi_grid.specs.Walks.{doubled_of, end_point, points_of, PlainWalk}
-use Rattle.octi_grid.specs.Legal.{are_clockwise, is_among, is_even, legs_of, port_of, port_where, puts_by, Leg, Put}
 use Rattle.octi_grid.proofs.LegalLemmas.{some_or_none}
 use Rattle.octi_grid.proofs.MeetsLemmas.{apart_at, CommonEnd}
 use Rattle.octi_grid.proofs.PortsLemmas.{ports_at_node}
-use Rattle.octi_grid.proofs.Members.{all_at, all_from, among_from, any_from, are_one_from, in_flat_map, In}
-use Rattle.grid_board.specs.declared.bounds.Bounds.{Bounds}
-use Rattle.grid_board.specs.Boards.{contains, empty_board, AreBounds, IsBoard}
 use Rattle.segment_router.proofs.ClearNodes.{undoubled}
 use Rattle.segment_router.specs.Routes.{ends_of, is_settled, node_point, port_at_node, port_by, walk_at, with_nodes, Routed}
-use Rattle.segment_router.specs.Underway.{IsUnderway}
 use Rattle.segment_router.proofs.Beginning.{bounds_stay, homes_are_nodes}
 use Rattle.segment_router.proofs.LaidLemmas.{HasEnd, IsLaid, Meeting}
 use Rattle.segment_router.proofs.LaidPorts.{AreClockwise}
 use Rattle.segment_router.proofs.LegalRoutes.{board_with_nodes, empty_fits}
-use Rattle.segment_router.proofs.Places.{all_in, in_at}
-use Rattle.drawing_weights.specs.Weights.{point_of}
-use Rattle.drawing_weights.specs.Drawn.{IsDrawn, points_all}
-use Rattle.drawing_weights.proofs.DrawnFacts.{apart_between, leg_place, leg_in, leg_of_walk, low_put, meets_fit, node_apart, node_even, node_holds, parts_of_legal, put_at, put_point, up_put, PutAt}
-use Rattle.octi_moves.specs.Moves.{is_in_the_way, is_other_node, kept_walks, may_stand, taken_away}
-use Rattle.octi_moves.specs.Standing.{stay_within}
 use Rattle.octi_grid.proofs.Fronts.{clockwise_fewer, IsSameOrNone}
+use Rattle.octi_moves.proofs.Common.{all_at, all_from, all_in, among_from, and_from, and_parts, any_from, apart_between}
+use Rattle.octi_moves.proofs.Common.{are_clockwise, are_one_from, cases_eq, cases_lt, contains, doubled, doubled_of}
+use Rattle.octi_moves.proofs.Common.{empty_board, end_point, ends_at, eq-eqb, eqb-true, filter_map}
+use Rattle.octi_moves.proofs.Common.{get_or-map-range_with_len, get_or-range_with_len, get_or-replicate}
+use Rattle.octi_moves.proofs.Common.{get_or-set_other, get_or-set_same, get_or_default, get_or_from_slice_get, in_at}
+use Rattle.octi_moves.proofs.Common.{in_flat_map, is_among, is_even, is_in_the_way, is_other_node, kept_walks, leg_in}
+use Rattle.octi_moves.proofs.Common.{leg_of_walk, leg_place, legs_of, length-map-range_with_len, length-range_with_len}
+use Rattle.octi_moves.proofs.Common.{length-replicate, length-set, list_all, low_put, may_stand, meets_fit, ne_eqb}
+use Rattle.octi_moves.proofs.Common.{node_apart, node_even, node_holds, not-true, or_cases, or_left, or_right}
+use Rattle.octi_moves.proofs.Common.{parts_of_legal, point_of, points_all, points_of, port_of, port_where, put_at}
+use Rattle.octi_moves.proofs.Common.{put_point, puts_by, range_with_len, stay_within, taken_away, true≢false, up_put}
+use Rattle.octi_moves.proofs.Common.{AreBounds, Bounds, GraphParts, GridPoint, In, IsBoard, IsConsistent, IsDrawn}
+use Rattle.octi_moves.proofs.Common.{IsUnderway, Leg, NodeId, PlainWalk, Put, PutAt, SegId}
 use Rattle.octi_moves.proofs.KeptWalks.{kept_at, kept_each, nodes_stay, same_bounds, standing_board, takes_doubled, Kept}
 
 abbrev origin : GridPoint

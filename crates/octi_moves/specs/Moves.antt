@@ -1,7 +1,6 @@
 -- Moves of nodes, one at a time, that make a drawing lighter.
-use Rattle.std.specs.Prelude.{ℕ, zero, suc, ◌+◌, ◌==◌, ◌&&◌, nat_lt, not, Bool, pos, ◌+ℤ◌, ◌-ℤ◌, List, [], ◌∷◌, length, map, fold, if◌then◌else◌, Option, Some, None, slice_set, unwrap_or}
-use Rattle.std.specs.List.{flat_map, list_any, range_with_len}
-use Rattle.std.specs.Int.{int_min, int_max}
+use Rattle.std.specs.Prelude.{ℕ, zero, suc, ◌+◌, ◌==◌, ◌&&◌, nat_lt, not, Bool, pos, ◌+ℤ◌, ◌-ℤ◌, List, [], ◌∷◌, length, map, if◌then◌else◌, Option, Some, None, slice_set}
+use Rattle.std.specs.List.{list_any, range_with_len}
 use Rattle.graph_core.specs.declared.parts.GraphParts.{GraphParts}
 use Rattle.graph_core.specs.Round.{ends_at, segments_at}
 use Rattle.octi_grid.specs.declared.dir.Dir.{Dir}
@@ -14,20 +13,10 @@ use Rattle.grid_board.specs.Boards.{contains}
 use Rattle.walk_search.specs.Routes.{directions}
 use Rattle.segment_router.specs.Routes.{Routed}
 use Rattle.segment_router.specs.Standing.{routed_again, standing}
+use Rattle.drawing_weights.specs.Reach.{bounds_of}
 use Rattle.drawing_weights.specs.Weights.{point_of, weight_of}
 
 -- ---- the board
-
-abbrev pub bounds_at : GridPoint → Bounds
-bounds_at p = record { left = p.x; right = p.x; bottom = p.y; top = p.y }
-
-abbrev pub bounds_with : Option Bounds → GridPoint → Option Bounds
-bounds_with None p = Some (bounds_at p)
-bounds_with (Some b) p = Some (record { left = int_min b.left p.x; right = int_max b.right p.x; bottom = int_min b.bottom p.y; top = int_max b.top p.y })
-
--- the bounds of all grid points of walks, those of the origin where there is none
-abbrev pub bounds_of : List PlainWalk → Bounds
-bounds_of walks = unwrap_or (fold bounds_with None (flat_map points_of walks)) (bounds_at (record { x = pos 0; y = pos 0 }))
 
 -- the board reaches four steps past the grid points of the first drawing
 abbrev pub board_bounds : List PlainWalk → Bounds

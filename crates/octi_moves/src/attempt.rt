@@ -6,9 +6,9 @@ ghost use Rattle.drawing_weights.specs.Weights.{weight_of};
 ghost use Rattle.octi_moves.specs.Moves.{attempt, if_lighter, may_stand, moved_to};
 ghost use Rattle.octi_moves.specs.Standing.{IsField, IsMover, IsStand, IsStanding};
 
+use crate::directions::moved;
 use crate::field::{Field, Mover, Stand};
 use crate::lightest::may_get_lighter;
-use crate::points::moved;
 use crate::rerouting::moved_to;
 use crate::standing::is_clear;
 use drawing_weights::weight_of;

@@ -1,6 +1,10 @@
-//! The eight directions, in their order.
+//! The eight directions, in their order, and two steps in one of them.
 
-use octi_grid::Dir;
+ghost use Rattle.std.specs.Prelude.{◌≡◌};
+ghost use Rattle.octi_grid.specs.Ways.{IsWithin};
+ghost use Rattle.octi_moves.specs.Moves.{moved};
+
+use octi_grid::{Dir, GridPoint};
 
 /// All directions, clockwise from north.
 pub(crate) const DIRECTIONS: [Dir; 8] = [
@@ -13,3 +17,11 @@ pub(crate) const DIRECTIONS: [Dir; 8] = [
     Dir::W,
     Dir::NW,
 ];
+
+/// The point two steps on.
+pub(crate) fn moved(p: GridPoint, dir: Dir) -> GridPoint
+    requires { IsWithin p }
+    ensures { result ≡ moved p dir }
+{
+    p.step(dir).step(dir)
+}

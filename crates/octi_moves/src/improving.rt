@@ -10,13 +10,12 @@ ghost use Rattle.octi_moves.specs.Moves.{first_of_node, next_of};
 ghost use Rattle.octi_moves.specs.Standing.{IsField, IsMover, IsStand, IsStanding};
 
 use crate::attempt::lighter_walks;
-use crate::bounds::board_bounds;
 use crate::directions::DIRECTIONS;
 use crate::field::{Field, Mover, Stand};
 use crate::improved::Improved;
 use crate::lightest::weight_at;
 use crate::rerouting::copy_of;
-use drawing_weights::{point_of, points_of, weight_of};
+use drawing_weights::{bounds_past, point_of, points_of, weight_of};
 use graph_core::LineGraph;
 use map_base::{NoMemory, NodeId, Sequence};
 use octi_grid::{Drawing, Walk};
@@ -39,7 +38,7 @@ pub fn improve(
     let _nodes = graph.nodes();
     let first = drawing.walks.into_vec();
     let walks = copies_of(alloc, &first)?;
-    let bounds = board_bounds(alloc, &first)?;
+    let bounds = bounds_past(alloc, 4, &first)?;
     let field = Field {
         graph,
         first: &first,

@@ -4,13 +4,11 @@
 #![tactic(auto)]
 
 mod attempt;
-mod bounds;
 mod directions;
 mod field;
 mod improved;
 mod improving;
 mod lightest;
-mod points;
 mod rerouting;
 mod standing;
 

@@ -10,8 +10,7 @@ ghost use Rattle.drawing_weights.specs.Drawn.{IsDrawn};
 ghost use Rattle.octi_moves.specs.Lightest.{ends_of, points_beside};
 ghost use Rattle.octi_moves.specs.Moves.{is_in_the_way, is_other_node};
 
-use crate::points::push_points;
-use drawing_weights::point_of;
+use drawing_weights::{point_of, push_points};
 use graph_core::LineGraph;
 use map_base::{NoMemory, NodeId, SegId};
 use octi_grid::{GridPoint, Walk};

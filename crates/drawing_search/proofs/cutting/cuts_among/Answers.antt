@@ -1,6 +1,5 @@
 use Rattle.std.proofs.Common.{◌≡◌, ℕ, ◌+◌, ◌-◌, ◌*◌, ◌/◌, List, [], ◌∷◌, ◌++◌, length, map, get_or, sym, ap, ◌∙◌, arith}
-use Rattle.std.proofs.lemmas.List.{map-append}
-use Rattle.std.specs.List.{range_with_len}
+use Rattle.drawing_search.proofs.Common.{map-append, range_with_len}
 use Rattle.drawing_search.proofs.Ranges.{range_more}
 use Rattle.drawing_search.proofs.cutting.cuts_among.Goals as goal
 

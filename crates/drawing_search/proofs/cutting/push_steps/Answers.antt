@@ -1,6 +1,5 @@
 use Rattle.std.proofs.Common.{◌++◌, ◌∷◌, [], List, append_assoc, replicate, ap, ◌∙◌}
-use Rattle.std.proofs.lemmas.List.{replicate_more}
-use Rattle.octi_grid.specs.declared.dir.Dir.{Dir}
+use Rattle.drawing_search.proofs.Common.{replicate_more, Dir}
 use Rattle.drawing_search.proofs.cutting.push_steps.Goals as goal
 
 pub loop-preserved : goal.loop-preserved

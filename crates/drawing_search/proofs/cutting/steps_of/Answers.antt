@@ -1,9 +1,8 @@
 use Rattle.std.proofs.Common.{◌+◌, ◌++◌, List, append-nil, append_assoc, drop, get_or, replicate, sym, ap, ◌∙◌, arith}
-use Rattle.std.proofs.lemmas.List.{at_drop_all, drop_more}
-use Rattle.octi_grid.specs.declared.dir.Dir.{Dir}
 use Rattle.octi_grid.specs.declared.walk.Run.{Run}
 use Rattle.octi_grid.specs.Runs.{steps_of}
 use Rattle.octi_grid.proofs.RunLemmas.{no_run}
+use Rattle.drawing_search.proofs.Common.{at_drop_all, drop_more, Dir}
 use Rattle.drawing_search.proofs.cutting.steps_of.Goals as goal
 
 pub loop-run-init : goal.loop-run-init

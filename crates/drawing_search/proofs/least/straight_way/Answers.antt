@@ -1,8 +1,6 @@
 use mir.Syntax.{w32}
 use Rattle.std.proofs.Common.{◌≡◌, sym, ◌∙◌, ap, ap₂, ℕ, ℤ, ◌-ℤ◌, cond, eqb, int_lt, unsigned_abs, rules}
-use Rattle.std.proofs.lemmas.Int.{to_z-of_z}
-use Rattle.std.proofs.lemmas.Bool.{eq-eqb, ne_eqb}
-use Rattle.drawing_search.specs.Least.{diagonal}
+use Rattle.drawing_search.proofs.Common.{diagonal, eq-eqb, ne_eqb, to_z-of_z}
 use Rattle.drawing_search.proofs.least.straight_way.Goals as goal
 
 -- none of the cases, or the last one

@@ -1,13 +1,7 @@
 use Rattle.std.proofs.Common.{◌≡◌, ℕ, ◌+◌, ◌-◌, ◌<◌, ◌≤◌, List, [], ◌∷◌, ◌++◌, pos, length, map, fold, get_or, drop, append_assoc, append-nil, sym, ap, subst, ◌∙◌, arith}
-use Rattle.map_base.specs.declared.ids.NodeId.{NodeId}
-use Rattle.line_chains.specs.declared.chain.ChainStep.{ChainStep}
-use Rattle.octi_grid.specs.declared.point.GridPoint.{GridPoint}
-use Rattle.run_laying.specs.Attempts.{inner_nodes}
-use Rattle.run_laying.specs.Laying.{Sketch}
 use Rattle.run_laying.specs.Sketches.{lifted as lifted_off, point_of_node}
-use Rattle.run_laying.proofs.Shown.{stands_below}
-use Rattle.drawing_search.specs.Changes.{AreLiftable}
-use Rattle.drawing_search.specs.Lifting.{points_along}
+use Rattle.drawing_search.proofs.Common.{inner_nodes, points_along, stands_below, AreLiftable, ChainStep, GridPoint}
+use Rattle.drawing_search.proofs.Common.{NodeId, Sketch}
 use Rattle.drawing_search.proofs.RunEnds.{inner_end, inner_left}
 use Rattle.drawing_search.proofs.Takable.{next_liftable}
 use Rattle.drawing_search.proofs.lifting.lift_between.Goals as goal

@@ -1,8 +1,6 @@
 use Rattle.std.proofs.Common.{◌≡◌, ◌-◌, ◌++◌, drop, fold}
-use Rattle.run_laying.specs.Attempts.{inner_nodes}
 use Rattle.run_laying.specs.Sketches.{lifted as lifted_off}
-use Rattle.drawing_search.specs.Changes.{AreLiftable}
-use Rattle.drawing_search.specs.Lifting.{points_along}
+use Rattle.drawing_search.proofs.Common.{inner_nodes, points_along, AreLiftable}
 use Rattle.drawing_search.proofs.lifting.lift_between.Given as goal
 
 -- the nodes that are left are taken off what there is

@@ -1,26 +1,28 @@
-use Rattle.std.proofs.Common.{◌≡◌, ℕ, ◌+◌, ◌<◌, List, [], ◌∷◌, ◌++◌, pos, length, map, fold, get_or, drop, append_assoc, append-nil, Option, Some, None, option_map, sym, ap, ap₂, subst, ◌∙◌}
-use Rattle.std.proofs.lemmas.List.{at_drop_all, at_drop_more}
-use Rattle.std.specs.List.{cons_option}
-use Rattle.std.specs.Prelude.{OnOk}
-use Rattle.map_base.specs.declared.ids.NodeId.{NodeId}
-use Rattle.map_base.specs.declared.ids.SegId.{SegId}
-use Rattle.line_chains.specs.declared.chain.ChainStep.{ChainStep}
-use Rattle.octi_grid.specs.declared.point.GridPoint.{GridPoint}
-use Rattle.octi_grid.specs.Walks.{PlainWalk}
-use Rattle.run_laying.specs.Attempts.{inner_nodes}
-use Rattle.run_laying.specs.Laying.{Sketch}
-use Rattle.run_laying.specs.Runs.{AreOnce}
+use Rattle.std.proofs.Common.{◌≡◌, ℕ, ◌+◌, ◌<◌, List, [], ◌∷◌, ◌++◌, pos, length, map, fold, get_or, drop, append_assoc, append-nil, Option, Some, None, option_map, sym, ap, ap₂, subst, ◌∙◌, refl, zero, suc, inl, inr, arith, get_or-set_other}
 use Rattle.run_laying.specs.Sketches.{lifted as lifted_off, walk_in, with_walk_of, IsLegalSketch}
-use Rattle.drawing_search.specs.declared.least.LeastTurns.{LeastTurns}
-use Rattle.drawing_search.specs.declared.lifting.Lifted.{Lifted}
-use Rattle.drawing_search.specs.Changes.{without_walks, AreLiftable}
-use Rattle.drawing_search.specs.Gains.{AreOnGraph}
-use Rattle.drawing_search.specs.Lifting.{points_along, walks_along}
+use Rattle.drawing_search.proofs.Common.{at_drop_all, at_drop_more, cons_option, inner_nodes, once_first, points_along}
+use Rattle.drawing_search.proofs.Common.{walks_along, without_walks, AreLiftable, AreOnce, AreOnGraph, ChainStep}
+use Rattle.drawing_search.proofs.Common.{GridPoint, LeastTurns, Lifted, NodeId, OnOk, PlainWalk, SegId, Sketch}
 use Rattle.drawing_search.proofs.RunReads.{run_on_graph}
 use Rattle.drawing_search.proofs.TakenOff.{off_legal}
-use Rattle.drawing_search.proofs.WalksOff.{once_rest, walks_off}
 use Rattle.drawing_search.proofs.lifting.lift_run.Goals.{in-Some+in_ok-push, in_default}
+use Rattle.run_laying.proofs.RunFacts.{IsOff}
 use Rattle.drawing_search.proofs.lifting.lift_run.Goals as goal
+
+-- steps over other segments keep theirs
+walks_off : (k : Sketch) (s : SegId) (ts : List ChainStep) → IsOff ts s → walks_along (with_walk_of k s None) ts ≡ walks_along k ts
+walks_off k s [] off = refl
+walks_off k s (t ∷ ts) off =
+    ap₂ (λ (o : Option PlainWalk) (rest : List (SegId × PlainWalk)). cons_option (option_map (λ (w : PlainWalk). (t.seg, w)) o) rest) (get_or-set_other k.walks s.0 t.seg.0 None None (off t (inl refl)))
+    (walks_off k s ts (λ q i e. off q (inr i) e))
+
+-- and those that follow a step go over others
+once_rest : (ts : List ChainStep) (i : ℕ) (d : ChainStep) → AreOnce ts → i < length ts → IsOff (drop (i + 1) ts) (get_or ts i d).seg
+once_rest [] i d once h = absurd (omega (arith, h))
+once_rest (t ∷ ts) zero d once h = once_first t ts once
+once_rest (t ∷ ts) (suc i) d once h =
+    let next : suc i + 1 ≡ suc (i + 1) = omega arith in
+    subst (λ k. IsOff (drop k (t ∷ ts)) (get_or ts i d).seg) (sym next) (once_rest ts i d once.1 (omega (arith, h)))
 
 abbrev none : ChainStep
 none = record { seg = record { 0 = 0 }; to = record { 0 = 0 } }
@@ -79,36 +81,27 @@ lift_between-requires c =
     subst (λ (k : Sketch). AreLiftable c.args.field.graph.now k (inner_nodes ts)) (sym off)
     (subst (λ (v : List ChainStep). AreLiftable c.args.field.graph.now (without_walks c.args.sketch.now v) (inner_nodes v)) (sym c.as_slice-steps.ensures) c.requires.takable.inner)
 
-pub returns-clause-sketch : goal.returns-clause-sketch
-returns-clause-sketch c =
+pub returns : goal.returns
+returns c =
     let ts = c.as_slice-steps.result.now in
     let off : c.loop-step.sketch ≡ without_walks c.args.sketch.now ts = sym (at_drop_all (without_walks c.loop-step.sketch) ts c.loop-step.step-index c.loop-step-test.false) ∙ c.loop-step.invariant.rest in
-    subst (λ (x : Sketch). OnOk c.lift_between.result (c.lift_between.new.sketch ≡ x))
-    (ap (λ (k : Sketch). fold lifted_off k (inner_nodes ts)) off ∙ ap (λ (v : List ChainStep). fold lifted_off (without_walks c.args.sketch.now v) (inner_nodes v)) c.as_slice-steps.ensures) c.lift_between.ensures.sketch
-
-pub returns-clause-walks : goal.returns-clause-walks
-returns-clause-walks c =
-    let ts = c.as_slice-steps.result.now in
-    subst (λ (x : List (SegId × PlainWalk)). OnOk c.lift_between.result (c.lift_between.new.lifted.walks.items ≡ x))
-    (sym (append-nil c.loop-step.lifted.walks.items)
-    ∙ sym (at_drop_all (λ (v : List ChainStep). c.loop-step.lifted.walks.items ++ walks_along c.loop-step.sketch v) ts c.loop-step.step-index c.loop-step-test.false)
-    ∙ c.loop-step.invariant.walks
-    ∙ ap (λ (v : List ChainStep). c.args.lifted.now.walks.items ++ walks_along c.args.sketch.now v) c.as_slice-steps.ensures)
-    c.lift_between.ensures.walks
-
-pub returns-clause-inner : goal.returns-clause-inner
-returns-clause-inner c =
-    let ts = c.as_slice-steps.result.now in
-    subst (λ (x : List (NodeId × GridPoint)). OnOk c.lift_between.result (c.lift_between.new.lifted.inner.items ≡ x))
-    (ap₂ (λ (v : List (NodeId × GridPoint)) (ps : List GridPoint). v ++ map (λ (n : NodeId). (n, get_or ps n.0 (record { x = pos 0; y = pos 0 }))) (inner_nodes ts)) c.loop-step.invariant.inner c.loop-step.invariant.points
-    ∙ ap (λ (v : List ChainStep). c.args.lifted.now.inner.items ++ points_along c.args.sketch.now v) c.as_slice-steps.ensures)
-    c.lift_between.ensures.inner
-
-pub returns-clause-moved : goal.returns-clause-moved
-returns-clause-moved c = subst (λ (x : List (NodeId × GridPoint)). OnOk c.lift_between.result (c.lift_between.new.lifted.moved.items ≡ x)) c.loop-step.invariant.moved c.lift_between.ensures.moved
-
-pub returns-clause-rest : goal.returns-clause-rest
-returns-clause-rest c = subst (λ (x : ℕ). OnOk c.lift_between.result (c.lift_between.new.lifted.rest ≡ x)) c.loop-step.invariant.weight c.lift_between.ensures.rest
-
-pub returns-clause-least : goal.returns-clause-least
-returns-clause-least c = subst (λ (x : List LeastTurns). OnOk c.lift_between.result (c.lift_between.new.lifted.least.items ≡ x)) c.loop-step.invariant.least c.lift_between.ensures.least
+    record {
+      sketch =
+          subst (λ (x : Sketch). OnOk c.lift_between.result (c.lift_between.new.sketch ≡ x))
+          (ap (λ (k : Sketch). fold lifted_off k (inner_nodes ts)) off ∙ ap (λ (v : List ChainStep). fold lifted_off (without_walks c.args.sketch.now v) (inner_nodes v)) c.as_slice-steps.ensures) c.lift_between.ensures.sketch;
+      walks =
+          subst (λ (x : List (SegId × PlainWalk)). OnOk c.lift_between.result (c.lift_between.new.lifted.walks.items ≡ x))
+          (sym (append-nil c.loop-step.lifted.walks.items)
+          ∙ sym (at_drop_all (λ (v : List ChainStep). c.loop-step.lifted.walks.items ++ walks_along c.loop-step.sketch v) ts c.loop-step.step-index c.loop-step-test.false)
+          ∙ c.loop-step.invariant.walks
+          ∙ ap (λ (v : List ChainStep). c.args.lifted.now.walks.items ++ walks_along c.args.sketch.now v) c.as_slice-steps.ensures)
+          c.lift_between.ensures.walks;
+      inner =
+          subst (λ (x : List (NodeId × GridPoint)). OnOk c.lift_between.result (c.lift_between.new.lifted.inner.items ≡ x))
+          (ap₂ (λ (v : List (NodeId × GridPoint)) (ps : List GridPoint). v ++ map (λ (n : NodeId). (n, get_or ps n.0 (record { x = pos 0; y = pos 0 }))) (inner_nodes ts)) c.loop-step.invariant.inner c.loop-step.invariant.points
+          ∙ ap (λ (v : List ChainStep). c.args.lifted.now.inner.items ++ points_along c.args.sketch.now v) c.as_slice-steps.ensures)
+          c.lift_between.ensures.inner;
+      moved = subst (λ (x : List (NodeId × GridPoint)). OnOk c.lift_between.result (c.lift_between.new.lifted.moved.items ≡ x)) c.loop-step.invariant.moved c.lift_between.ensures.moved;
+      rest = subst (λ (x : ℕ). OnOk c.lift_between.result (c.lift_between.new.lifted.rest ≡ x)) c.loop-step.invariant.weight c.lift_between.ensures.rest;
+      least = subst (λ (x : List LeastTurns). OnOk c.lift_between.result (c.lift_between.new.lifted.least.items ≡ x)) c.loop-step.invariant.least c.lift_between.ensures.least;
+    }

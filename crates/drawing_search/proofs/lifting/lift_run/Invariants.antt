@@ -1,7 +1,5 @@
 use Rattle.std.proofs.Common.{◌≡◌, ◌++◌, drop}
-use Rattle.run_laying.specs.Sketches.{IsLegalSketch}
-use Rattle.drawing_search.specs.Changes.{without_walks}
-use Rattle.drawing_search.specs.Lifting.{walks_along}
+use Rattle.drawing_search.proofs.Common.{walks_along, without_walks, IsLegalSketch}
 use Rattle.drawing_search.proofs.lifting.lift_run.Given as goal
 
 -- the steps that are left lose their walks

@@ -1,8 +1,5 @@
 use Rattle.std.proofs.Common.{◌∙◌, sym, ap, ap₂, subst, fold, List}
-use Rattle.map_base.specs.declared.ids.NodeId.{NodeId}
-use Rattle.octi_grid.specs.declared.point.GridPoint.{GridPoint}
-use Rattle.run_laying.specs.Laying.{Sketch}
-use Rattle.drawing_search.specs.Changes.{stood_at, walked_by, CanStandEach, CanWalkEach}
+use Rattle.drawing_search.proofs.Common.{stood_at, walked_by, CanStandEach, CanWalkEach, GridPoint, NodeId, Sketch}
 use Rattle.drawing_search.proofs.lifting.put_back.Goals as goal
 
 pub stand_each-requires : goal.stand_each-requires

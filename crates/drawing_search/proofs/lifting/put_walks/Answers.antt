@@ -1,11 +1,8 @@
 use Rattle.std.proofs.Common.{◌≡◌, sym, ◌∙◌, ap, subst, ℕ, ◌+◌, ◌<◌, ◌∷◌, ◌++◌, [], List, length, fold, get_or, drop, arith, rules}
-use Rattle.std.proofs.lemmas.List.{at_drop_all, at_drop_more, drop_more, length_push}
 use Rattle.std.proofs.lemmas.Iterator.Adapters.{YieldsList-from_vec}
 use Rattle.std.proofs.lemmas.Iterator.Consumers.{YieldsList-end, YieldsList-turn}
-use Rattle.map_base.specs.declared.ids.SegId.{SegId}
-use Rattle.octi_grid.specs.Walks.{PlainWalk}
-use Rattle.run_laying.specs.Laying.{Sketch}
-use Rattle.drawing_search.specs.Changes.{walked_by, CanWalk, CanWalkEach}
+use Rattle.drawing_search.proofs.Common.{at_drop_all, at_drop_more, drop_more, length_push, walked_by, CanWalk}
+use Rattle.drawing_search.proofs.Common.{CanWalkEach, PlainWalk, SegId, Sketch}
 use Rattle.drawing_search.proofs.lifting.put_walks.Goals as goal
 
 -- the next segment may have its walk, and then the others

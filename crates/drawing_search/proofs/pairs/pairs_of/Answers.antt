@@ -1,10 +1,7 @@
 use Rattle.std.proofs.Common.{List, ◌++◌, ◌∙◌, append-nil, refl, get_or, ap, sym, arith}
-use Rattle.std.proofs.lemmas.List.{at_drop_all}
-use Rattle.map_base.specs.declared.ids.SegId.{SegId}
 use Rattle.graph_core.specs.declared.parts.Join.{Join}
-use Rattle.drawing_weights.specs.Scales.{joined_pairs}
-use Rattle.drawing_search.specs.Gains.{no_join}
-use Rattle.drawing_search.proofs.JoinedPairs.{pairs_more}
+use Rattle.drawing_search.proofs.Common.{at_drop_all, joined_pairs, no_join, SegId}
+use Rattle.drawing_search.proofs.FieldFacts.{pairs_more}
 use Rattle.drawing_search.proofs.pairs.pairs_of.Goals as goal
 
 pub loop-i-init : goal.loop-i-init

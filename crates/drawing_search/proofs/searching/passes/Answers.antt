@@ -1,10 +1,5 @@
 use Rattle.std.proofs.Common.{◌≡◌, ◌∙◌, sym, ap, subst, ◌+◌, List, min, arith}
-use Rattle.octi_grid.specs.declared.point.GridPoint.{GridPoint}
-use Rattle.drawing_weights.specs.Scales.{scale_of}
-use Rattle.drawing_search.specs.Gains.{sketch_weight}
-use Rattle.drawing_search.specs.Searched.{attempts_of}
-use Rattle.drawing_search.specs.Tries.{IsSettled}
-use Rattle.drawing_search.specs.Trying.{walks_of}
+use Rattle.drawing_search.proofs.Common.{attempts_of, scale_of, sketch_weight, walks_of, GridPoint, IsSettled}
 use Rattle.drawing_search.proofs.Beginning.{outcome_is, passes_begin}
 use Rattle.drawing_search.proofs.Searches.{good_then, no_heavier_then, passes_end, passes_more, passes_stop, rises, settled_then}
 use Rattle.drawing_search.proofs.searching.passes.Goals as goal

@@ -1,6 +1,5 @@
 use Rattle.std.proofs.Common.{◌-◌}
-use Rattle.drawing_weights.specs.Scales.{scale_of}
-use Rattle.drawing_search.specs.Trying.{walks_of}
+use Rattle.drawing_search.proofs.Common.{scale_of, walks_of}
 use Rattle.drawing_search.proofs.Searches.{IsBetweenPasses}
 use Rattle.drawing_search.proofs.searching.passes.Given as goal
 

@@ -1,9 +1,5 @@
 use Rattle.std.proofs.Common.{◌∙◌, sym, ap, subst}
-use Rattle.drawing_weights.specs.Drawn.{points_all, IsDrawn}
-use Rattle.drawing_weights.specs.Scales.{scale_of}
-use Rattle.grid_board.specs.Points.{are_near}
-use Rattle.run_laying.specs.Attempts.{bounds_past}
-use Rattle.drawing_search.specs.Searched.{attempts_of}
+use Rattle.drawing_search.proofs.Common.{are_near, attempts_of, bounds_past, points_all, scale_of, IsDrawn}
 use Rattle.drawing_search.proofs.Beginning.{begun_searched, can_begin, has_begun}
 use Rattle.drawing_search.proofs.searching.search.Goals as goal
 

@@ -1,16 +1,8 @@
 use Rattle.std.proofs.Common.{◌≡◌, refl, sym, ◌∙◌, ap, subst, ◌-◌, ◌<◌, ◌∷◌, ◌++◌, [], List, length, map, get_or, Some, arith, rules}
-use Rattle.std.proofs.lemmas.List.{length_push}
 use Rattle.std.proofs.lemmas.Iterator.Adapters.{YieldsList-from_vec}
 use Rattle.std.proofs.lemmas.Iterator.Consumers.{YieldsList-end, YieldsList-turn}
-use Rattle.std.specs.List.{list_all}
-use Rattle.octi_grid.specs.Legal.{is_even}
-use Rattle.octi_grid.specs.Walks.{points_of, PlainWalk}
-use Rattle.grid_board.specs.Boards.{contains}
-use Rattle.segment_router.proofs.Places.{all_place}
-use Rattle.segment_router.proofs.SettledLemmas.{nowhere}
-use Rattle.run_laying.specs.Laying.{Sketch}
-use Rattle.run_laying.specs.Sketches.{is_standing, stood, walk_in, with_walk_of}
-use Rattle.drawing_search.specs.Shown.{bare_sketch}
+use Rattle.drawing_search.proofs.Common.{all_place, bare_sketch, contains, is_even, is_standing, length_push, list_all}
+use Rattle.drawing_search.proofs.Common.{nowhere, points_of, stood, walk_in, with_walk_of, PlainWalk, Sketch}
 use Rattle.drawing_search.proofs.Built.{node_built, node_flag, node_low, nodes_none, walk_below, walk_built, walk_free, walks_all, walks_none, with_walks}
 use Rattle.drawing_search.proofs.searching.sketch_of.Goals as goal
 
@@ -22,31 +14,20 @@ pub loop-n-init : goal.loop-n-init
 loop-n-init c =
     c.in_ok-sketch.ensures ∙ ap (bare_sketch c.args.bounds c.args.points.now) (c.segs.ensures ∙ sym c.requires.walks) ∙ nodes_none c.args.bounds c.args.points.now (length c.args.walks.items)
 
-pub stand-requires-clause-node : goal.stand-requires-clause-node
-stand-requires-clause-node c = omega (arith, ap (λ (k : Sketch). length k.points) c.loop-n.invariant, c.loop-n-test.true, c.nodes-n-end.ensures.count, c.requires.points)
-
-pub stand-requires-clause-flag : goal.stand-requires-clause-flag
-stand-requires-clause-flag c =
+pub stand-requires : goal.stand-requires
+stand-requires c =
     let ps = c.args.points.now in
     let n = c.loop-n.n in
     let below : n < length ps = omega (arith, c.loop-n-test.true, c.nodes-n-end.ensures.count, c.requires.points) in
-    subst (λ (k : Sketch). n < length k.stand) (sym c.loop-n.invariant) (node_flag c.args.bounds ps (length c.args.walks.items) n below)
-
-pub stand-requires-clause-lifted : goal.stand-requires-clause-lifted
-stand-requires-clause-lifted c =
-    let ps = c.args.points.now in
-    let n = c.loop-n.n in
-    ap (λ (k : Sketch). is_standing k n) c.loop-n.invariant ∙ node_low c.args.bounds ps (length c.args.walks.items) n (omega (arith, c.loop-n-test.true, c.nodes-n-end.ensures.count, c.requires.points))
-
-pub stand-requires-clause-inside : goal.stand-requires-clause-inside
-stand-requires-clause-inside c =
-    let ps = c.args.points.now in
-    let n = c.loop-n.n in
-    ap (λ (k : Sketch). contains k.bounds (get_or ps n nowhere)) c.loop-n.invariant
-    ∙ all_place (contains c.args.bounds) ps n nowhere c.requires.inside (omega (arith, c.loop-n-test.true, c.nodes-n-end.ensures.count, c.requires.points))
-
-pub stand-requires-clause-even : goal.stand-requires-clause-even
-stand-requires-clause-even c = all_place is_even c.args.points.now c.loop-n.n nowhere c.requires.even (omega (arith, c.loop-n-test.true, c.nodes-n-end.ensures.count, c.requires.points))
+    record {
+      node = omega (arith, ap (λ (k : Sketch). length k.points) c.loop-n.invariant, c.loop-n-test.true, c.nodes-n-end.ensures.count, c.requires.points);
+      flag = subst (λ (k : Sketch). n < length k.stand) (sym c.loop-n.invariant) (node_flag c.args.bounds ps (length c.args.walks.items) n below);
+      lifted = ap (λ (k : Sketch). is_standing k n) c.loop-n.invariant ∙ node_low c.args.bounds ps (length c.args.walks.items) n (omega (arith, c.loop-n-test.true, c.nodes-n-end.ensures.count, c.requires.points));
+      inside =
+          ap (λ (k : Sketch). contains k.bounds (get_or ps n nowhere)) c.loop-n.invariant
+          ∙ all_place (contains c.args.bounds) ps n nowhere c.requires.inside (omega (arith, c.loop-n-test.true, c.nodes-n-end.ensures.count, c.requires.points));
+      even = all_place is_even c.args.points.now c.loop-n.n nowhere c.requires.even (omega (arith, c.loop-n-test.true, c.nodes-n-end.ensures.count, c.requires.points));
+    }
 
 pub loop-n-preserved : goal.loop-n-preserved
 loop-n-preserved c =
@@ -63,30 +44,23 @@ loop-walk-init c =
     let whole : length c.args.walks.items ≡ length c.args.walks.items - 0 = omega arith in
     record { sketch = c.loop-n.invariant ∙ walks_none c.args.bounds ps (length c.args.walks.items) c.loop-n.n all ∙ ap (with_walks c.args.bounds ps []) whole; count = refl }
 
-pub put_walk-requires-clause-segment : goal.put_walk-requires-clause-segment
-put_walk-requires-clause-segment c =
+pub put_walk-requires : goal.put_walk-requires
+put_walk-requires c =
     let ws = c.args.walks.items in
     let t = YieldsList-turn (YieldsList-from_vec {s = c.into_iter-walk-iterator.result} ws (search rules) (search rules)) c.loop-walk.yielded c.loop-walk.walk-iterator c.loop-walk.yielded_by c.next.result c.next.new.self c.in-Some.walk c.in-Some.is c.next.ensures.steps in
     let some : 0 < length ws - length c.loop-walk.yielded = omega (arith, t.0) in
-    omega (arith, ap (λ (k : Sketch). length k.walks) c.loop-walk.invariant.sketch, c.loop-walk.invariant.count, walk_below c.args.bounds c.args.points.now c.loop-walk.yielded (length ws - length c.loop-walk.yielded) some)
-
-pub put_walk-requires-clause-free : goal.put_walk-requires-clause-free
-put_walk-requires-clause-free c =
-    let ws = c.args.walks.items in
-    let t = YieldsList-turn (YieldsList-from_vec {s = c.into_iter-walk-iterator.result} ws (search rules) (search rules)) c.loop-walk.yielded c.loop-walk.walk-iterator c.loop-walk.yielded_by c.next.result c.next.new.self c.in-Some.walk c.in-Some.is c.next.ensures.steps in
-    let some : 0 < length ws - length c.loop-walk.yielded = omega (arith, t.0) in
-    ap (λ (k : Sketch). walk_in k (record { 0 = c.loop-walk.s })) c.loop-walk.invariant.sketch
-    ∙ ap (λ i. walk_in (with_walks c.args.bounds c.args.points.now c.loop-walk.yielded (length ws - length c.loop-walk.yielded)) (record { 0 = i })) c.loop-walk.invariant.count
-    ∙ walk_free c.args.bounds c.args.points.now c.loop-walk.yielded (length ws - length c.loop-walk.yielded) some
-
-pub put_walk-requires-clause-inside : goal.put_walk-requires-clause-inside
-put_walk-requires-clause-inside c =
-    let ws = c.args.walks.items in
-    let t = YieldsList-turn (YieldsList-from_vec {s = c.into_iter-walk-iterator.result} ws (search rules) (search rules)) c.loop-walk.yielded c.loop-walk.walk-iterator c.loop-walk.yielded_by c.next.result c.next.new.self c.in-Some.walk c.in-Some.is c.next.ensures.steps in
     let w = c.in-Some.walk in
-    ap (λ (k : Sketch). list_all (contains k.bounds) (points_of w)) c.loop-walk.invariant.sketch
-    ∙ ap (λ (x : PlainWalk). list_all (contains c.args.bounds) (points_of x)) t.1
-    ∙ all_place (λ (x : PlainWalk). list_all (contains c.args.bounds) (points_of x)) ws (length c.loop-walk.yielded) w c.requires.within t.0
+    record {
+      segment = omega (arith, ap (λ (k : Sketch). length k.walks) c.loop-walk.invariant.sketch, c.loop-walk.invariant.count, walk_below c.args.bounds c.args.points.now c.loop-walk.yielded (length ws - length c.loop-walk.yielded) some);
+      free =
+          ap (λ (k : Sketch). walk_in k (record { 0 = c.loop-walk.s })) c.loop-walk.invariant.sketch
+          ∙ ap (λ i. walk_in (with_walks c.args.bounds c.args.points.now c.loop-walk.yielded (length ws - length c.loop-walk.yielded)) (record { 0 = i })) c.loop-walk.invariant.count
+          ∙ walk_free c.args.bounds c.args.points.now c.loop-walk.yielded (length ws - length c.loop-walk.yielded) some;
+      inside =
+          ap (λ (k : Sketch). list_all (contains k.bounds) (points_of w)) c.loop-walk.invariant.sketch
+          ∙ ap (λ (x : PlainWalk). list_all (contains c.args.bounds) (points_of x)) t.1
+          ∙ all_place (λ (x : PlainWalk). list_all (contains c.args.bounds) (points_of x)) ws (length c.loop-walk.yielded) w c.requires.within t.0;
+    }
 
 pub overflow_add-s : goal.overflow_add-s
 overflow_add-s c =

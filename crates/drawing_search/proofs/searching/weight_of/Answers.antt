@@ -1,14 +1,7 @@
-use Rattle.std.proofs.Common.{◌≡◌, ℕ, ◌+◌, ◌∷◌, ◌++◌, [], ap, ◌∙◌, length, arith}
-use Rattle.std.proofs.lemmas.List.Sums.{sum_by_push}
-use Rattle.std.specs.List.{range_with_len, sum_by}
-use Rattle.drawing_weights.specs.Scales.{scale_of}
-use Rattle.drawing_search.specs.Gains.{node_weight_in, segment_weight}
-use Rattle.drawing_search.proofs.Ranges.{range_more}
+use Rattle.std.proofs.Common.{◌≡◌, ap, length, arith}
+use Rattle.drawing_search.proofs.Common.{node_weight_in, range_with_len, scale_of, segment_weight, sum_by}
 use Rattle.drawing_search.proofs.searching.weight_of.Goals as goal
-
--- a number more in a range
-sum_more : (f : ℕ → ℕ) (n : ℕ) → sum_by f (range_with_len 0 (n + 1)) ≡ sum_by f (range_with_len 0 n) + f n
-sum_more f n = let same : 0 + n ≡ n = omega arith in ap (sum_by f) (range_more 0 n ∙ ap (λ k. range_with_len 0 n ++ k ∷ []) same) ∙ sum_by_push f (range_with_len 0 n) n
+use Rattle.drawing_weights.proofs.Sums.{sum_more}
 
 pub overflow_add-total : goal.overflow_add-total
 overflow_add-total c = omega (arith, c.loop-s.invariant.small, c.walk_at-total.ensures.small, c.loop-s-test.true, c.segs-s-end.ensures, c.requires.field.graph.few_segments)
@@ -37,15 +30,12 @@ loop-n-preserved c =
     let more = sum_more (node_weight_in (scale_of c.args.field.by) c.args.field.graph.now c.args.field.first.now c.args.sketch.now) c.loop-n.n in
     record { weight = omega (arith, c.loop-n.invariant.weight, c.node_weight-total.ensures.weight, more); small = omega (arith, c.loop-n.invariant.small, c.node_weight-total.ensures.small) }
 
-pub returns-clause-weight : goal.returns-clause-weight
-returns-clause-weight c =
+pub returns : goal.returns
+returns c =
     let f = c.args.field in
     let at_end : c.loop-n.n ≡ length f.graph.now.kinds = omega (arith, c.loop-n-test.false, c.loop-n.auto.n-end, c.nodes-n-end.ensures.count) in
     let all = ap (λ n. sum_by (node_weight_in (scale_of f.by) f.graph.now f.first.now c.args.sketch.now) (range_with_len 0 n)) at_end in
-    omega (arith, c.loop-n.invariant.weight, all)
-
-pub returns-clause-small : goal.returns-clause-small
-returns-clause-small c =
-    let f = c.args.field in
-    let at_end : c.loop-n.n ≡ length f.graph.now.kinds = omega (arith, c.loop-n-test.false, c.loop-n.auto.n-end, c.nodes-n-end.ensures.count) in
-    omega (arith, c.loop-n.invariant.small, at_end, c.requires.field.graph.few_nodes, c.requires.field.graph.few_segments)
+    record {
+      weight = omega (arith, c.loop-n.invariant.weight, all);
+      small = omega (arith, c.loop-n.invariant.small, at_end, c.requires.field.graph.few_nodes, c.requires.field.graph.few_segments);
+    }

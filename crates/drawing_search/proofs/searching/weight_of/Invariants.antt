@@ -1,7 +1,5 @@
 use Rattle.std.proofs.Common.{◌≡◌, ◌+◌, ◌*◌, ◌≤◌, length}
-use Rattle.std.specs.List.{range_with_len, sum_by}
-use Rattle.drawing_weights.specs.Scales.{scale_of}
-use Rattle.drawing_search.specs.Gains.{node_weight_in, segment_weight}
+use Rattle.drawing_search.proofs.Common.{node_weight_in, range_with_len, scale_of, segment_weight, sum_by}
 use Rattle.drawing_search.proofs.searching.weight_of.Given as goal
 
 -- what the segments so far weigh

@@ -1,11 +1,6 @@
 use Rattle.std.proofs.Common.{◌≡◌, ℕ, ◌+◌, ◌<◌, ◌||◌, Bool, true, false, is_some, List, [], Option, None, length, get_or, drop, sym, ap, ◌∙◌, arith}
-use Rattle.std.proofs.lemmas.Bool.{or_left}
-use Rattle.std.proofs.lemmas.List.{at_drop_all, at_drop_more, get_or_read}
-use Rattle.std.specs.List.{list_any}
-use Rattle.map_base.specs.declared.ids.SegId.{SegId}
-use Rattle.octi_grid.specs.Walks.{PlainWalk}
-use Rattle.segment_router.proofs.OrderLemmas.{read_at}
-use Rattle.segment_router.proofs.RoutingLemmas.{round_within}
+use Rattle.drawing_search.proofs.Common.{at_drop_all, at_drop_more, get_or_read, list_any, or_left, read_at}
+use Rattle.drawing_search.proofs.Common.{round_within, PlainWalk, SegId}
 use Rattle.drawing_search.proofs.sketch.has_walk_at.Goals as goal
 
 abbrev none : SegId

@@ -1,6 +1,5 @@
 use Rattle.std.proofs.Common.{◌≡◌, is_some, [], None, drop, get_or}
-use Rattle.std.specs.List.{list_any}
-use Rattle.map_base.specs.declared.ids.SegId.{SegId}
+use Rattle.drawing_search.proofs.Common.{list_any, SegId}
 use Rattle.drawing_search.proofs.sketch.has_walk_at.Given as goal
 
 -- it depends on the segments that are left

@@ -1,14 +1,6 @@
 use Rattle.std.proofs.Common.{◌≡◌, ℕ, ◌+◌, ◌<◌, ◌∷◌, [], true, List, pos, length, get_or, take, sym, ap, ap₂, subst, ◌∙◌, arith}
-use Rattle.std.proofs.lemmas.List.{map-append, take_all, take_more}
-use Rattle.std.proofs.lemmas.List.Sums.{sum_by_push}
-use Rattle.std.specs.List.{sum_by}
-use Rattle.map_base.specs.declared.ids.NodeId.{NodeId}
-use Rattle.octi_grid.specs.declared.point.GridPoint.{GridPoint}
-use Rattle.grid_board.specs.Points.{is_near}
-use Rattle.drawing_weights.specs.Scales.{apart_weight_by, scale_of}
-use Rattle.drawing_search.specs.declared.group.Vector.{Vector}
-use Rattle.drawing_search.specs.Changes.{all_moved, moved_by}
-use Rattle.drawing_search.specs.Gains.{first_point}
+use Rattle.drawing_search.proofs.Common.{all_moved, apart_weight_by, first_point, is_near, map-append, moved_by}
+use Rattle.drawing_search.proofs.Common.{scale_of, sum_by, sum_by_push, take_all, take_more, GridPoint, NodeId, Vector}
 use Rattle.drawing_search.proofs.trying.aparts_after.Goals as goal
 
 abbrev nobody : NodeId × GridPoint

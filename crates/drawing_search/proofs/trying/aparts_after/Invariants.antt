@@ -1,10 +1,5 @@
 use Rattle.std.proofs.Common.{◌≡◌, ◌*◌, ◌≤◌, take}
-use Rattle.std.specs.List.{sum_by}
-use Rattle.map_base.specs.declared.ids.NodeId.{NodeId}
-use Rattle.octi_grid.specs.declared.point.GridPoint.{GridPoint}
-use Rattle.drawing_weights.specs.Scales.{apart_weight_by, scale_of}
-use Rattle.drawing_search.specs.Changes.{all_moved}
-use Rattle.drawing_search.specs.Gains.{first_point}
+use Rattle.drawing_search.proofs.Common.{all_moved, apart_weight_by, first_point, scale_of, sum_by, GridPoint, NodeId}
 use Rattle.drawing_search.proofs.trying.aparts_after.Given as goal
 
 -- what the nodes so far weigh

@@ -1,7 +1,6 @@
 use Rattle.std.proofs.Common.{List, sym, subst}
-use Rattle.octi_grid.specs.Walks.{PlainWalk}
-use Rattle.grid_board.specs.Points.{are_near}
 use Rattle.std.proofs.Common.{◌≡◌, true}
+use Rattle.octi_moves.proofs.Common.{are_near, PlainWalk}
 use Rattle.octi_moves.proofs.FieldUse.{first_near, walks_near}
 use Rattle.octi_moves.proofs.attempt.if_lighter.Goals as goal
 

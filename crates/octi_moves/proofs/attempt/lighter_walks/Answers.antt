@@ -1,10 +1,5 @@
 use Rattle.std.proofs.Common.{ltb, ◌∙◌, ◌≤◌, sym, ap, subst}
-use Rattle.std.proofs.lemmas.Bool.{ltb-false}
-use Rattle.octi_grid.specs.declared.point.GridPoint.{GridPoint}
-use Rattle.octi_grid.specs.Ways.{IsWithin}
-use Rattle.octi_grid.specs.Legal.{is_even}
-use Rattle.octi_moves.specs.Lightest.{least_after, weight_at}
-use Rattle.octi_moves.specs.Moves.{moved}
+use Rattle.octi_moves.proofs.Common.{is_even, least_after, ltb-false, moved, weight_at, GridPoint, IsWithin}
 use Rattle.octi_moves.proofs.MovedUse.{attempt_no_lighter, moves_even, point_within}
 use Rattle.octi_moves.proofs.attempt.lighter_walks.Goals as goal
 

@@ -1,11 +1,7 @@
 use Rattle.std.proofs.Common.{◌≡◌, ◌∙◌, ◌+◌, Option, List, option_map, drop, get_or, false, sym, ap}
-use Rattle.std.specs.Prelude.{is_some}
-use Rattle.octi_grid.specs.declared.dir.Dir.{Dir}
 use Rattle.octi_grid.specs.declared.dir.Dir.TheVariants as dir
-use Rattle.octi_grid.specs.Walks.{PlainWalk}
-use Rattle.grid_board.specs.declared.bounds.Bounds.{Bounds}
-use Rattle.walk_search.specs.Routes.{directions}
-use Rattle.octi_moves.specs.Moves.{attempt, board_bounds, first_of_node, if_lighter, or_next}
+use Rattle.octi_moves.proofs.Common.{attempt, board_bounds, directions, first_of_node, if_lighter, is_some, or_next}
+use Rattle.octi_moves.proofs.Common.{Bounds, Dir, PlainWalk}
 use Rattle.octi_moves.proofs.Firsts.{dirs_more, next_none}
 use Rattle.octi_moves.proofs.improving.first_of_node.Goals as goal
 

@@ -1,6 +1,5 @@
 use Rattle.std.proofs.Common.{◌≡◌, drop}
-use Rattle.walk_search.specs.Routes.{directions}
-use Rattle.octi_moves.specs.Moves.{first_of_node}
+use Rattle.octi_moves.proofs.Common.{directions, first_of_node}
 use Rattle.octi_moves.proofs.improving.first_of_node.Given as goal
 
 -- it is the first of the directions that are left

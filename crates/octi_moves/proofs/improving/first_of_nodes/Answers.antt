@@ -1,10 +1,6 @@
 use Rattle.std.proofs.Common.{◌≡◌, ◌∙◌, ◌+◌, Option, List, drop, length, true, false, sym, ap, arith}
-use Rattle.std.specs.Prelude.{is_some}
-use Rattle.std.specs.List.{range_with_len}
-use Rattle.map_base.specs.declared.ids.NodeId.{NodeId}
-use Rattle.octi_grid.specs.Walks.{PlainWalk}
-use Rattle.walk_search.specs.Routes.{directions}
-use Rattle.octi_moves.specs.Moves.{first_of_node, first_of_nodes, or_next}
+use Rattle.octi_moves.proofs.Common.{directions, first_of_node, first_of_nodes, is_some, or_next, range_with_len}
+use Rattle.octi_moves.proofs.Common.{NodeId, PlainWalk}
 use Rattle.octi_moves.proofs.Firsts.{next_none, next_some, nodes_end, nodes_more}
 use Rattle.octi_moves.proofs.improving.first_of_nodes.Goals as goal
 

@@ -1,6 +1,5 @@
 use Rattle.std.proofs.Common.{◌≡◌, drop, length}
-use Rattle.std.specs.List.{range_with_len}
-use Rattle.octi_moves.specs.Moves.{first_of_nodes, next_of}
+use Rattle.octi_moves.proofs.Common.{first_of_nodes, next_of, range_with_len}
 use Rattle.octi_moves.proofs.improving.first_of_nodes.Given as goal
 
 -- it is the first of the nodes that are left

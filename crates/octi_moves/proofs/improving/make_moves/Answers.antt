@@ -1,8 +1,5 @@
 use Rattle.std.proofs.Common.{◌≡◌, ◌∙◌, None, sym, ap, subst, arith, inl, inr}
-use Rattle.grid_board.specs.Points.{are_near}
-use Rattle.drawing_weights.specs.Weights.{weight_of}
-use Rattle.drawing_weights.specs.Drawn.{IsDrawn}
-use Rattle.octi_moves.specs.Moves.{next_of}
+use Rattle.octi_moves.proofs.Common.{are_near, next_of, weight_of, IsDrawn}
 use Rattle.octi_moves.proofs.FieldUse.{first_near, walks_near}
 use Rattle.octi_moves.proofs.Firsts.{no_items, some_item}
 use Rattle.octi_moves.proofs.Found.{next_found}

@@ -1,14 +1,7 @@
 use Rattle.std.proofs.Common.{◌≡◌, ◌∙◌, ℕ, ◌+◌, ◌≤◌, true, List, get_or, length, sym, ap, arith}
-use Rattle.std.specs.Prelude.{nat_le, unsigned_abs}
-use Rattle.std.specs.List.{sum_by}
-use Rattle.std.proofs.lemmas.Bool.{and_parts, leb-true}
-use Rattle.std.proofs.lemmas.List.FromFn.{length-map-range_with_len}
-use Rattle.map_base.specs.declared.ids.SegId.{SegId}
-use Rattle.octi_grid.specs.declared.point.GridPoint.{GridPoint}
-use Rattle.grid_board.specs.Points.{is_near}
-use Rattle.drawing_weights.specs.Weights.{apart_weight, least_weight, point_of}
-use Rattle.drawing_weights.proofs.DrawnFacts.{node_holds}
-use Rattle.octi_moves.specs.Lightest.{ends_of, other_end}
+use Rattle.octi_moves.proofs.Common.{and_parts, apart_weight, ends_of, is_near, least_weight, leb-true}
+use Rattle.octi_moves.proofs.Common.{length-map-range_with_len, nat_le, node_holds, other_end, point_of, sum_by}
+use Rattle.octi_moves.proofs.Common.{unsigned_abs, GridPoint, SegId}
 use Rattle.octi_moves.proofs.FieldUse.{first_near, point_near}
 use Rattle.octi_moves.proofs.RoundSums.{other_read, round_few, round_is, seg_below, sum_end, sum_next}
 use Rattle.octi_moves.proofs.lightest.least_after.Goals as goal

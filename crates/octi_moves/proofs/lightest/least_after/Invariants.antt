@@ -1,7 +1,5 @@
 use Rattle.std.proofs.Common.{◌≡◌, ◌+◌, ◌*◌, ◌≤◌, ◌^◌, drop}
-use Rattle.std.specs.List.{sum_by}
-use Rattle.drawing_weights.specs.Weights.{least_weight, point_of}
-use Rattle.octi_moves.specs.Lightest.{ends_of, least_after, other_end}
+use Rattle.octi_moves.proofs.Common.{ends_of, least_after, least_weight, other_end, point_of, sum_by}
 use Rattle.octi_moves.proofs.lightest.least_after.Given as goal
 
 -- what the node and the walks so far weigh at least, and those that are left

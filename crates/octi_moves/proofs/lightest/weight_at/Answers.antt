@@ -1,8 +1,6 @@
 use Rattle.std.proofs.Common.{◌∙◌, ℕ, ◌+◌, List, get_or, sym, ap, arith}
-use Rattle.std.specs.List.{sum_by}
-use Rattle.map_base.specs.declared.ids.SegId.{SegId}
-use Rattle.drawing_weights.specs.Weights.{apart_weight, point_of, walk_weight}
 use Rattle.octi_moves.specs.Lightest.{walk_of}
+use Rattle.octi_moves.proofs.Common.{apart_weight, point_of, sum_by, walk_weight, SegId}
 use Rattle.octi_moves.proofs.FieldUse.{first_near, walks_near}
 use Rattle.octi_moves.proofs.RoundSums.{round_few, round_is, seg_below, short_at, sum_end, sum_next, walk_is}
 use Rattle.octi_moves.proofs.lightest.weight_at.Goals as goal

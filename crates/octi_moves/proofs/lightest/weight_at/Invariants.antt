@@ -1,7 +1,6 @@
 use Rattle.std.proofs.Common.{◌≡◌, ◌+◌, ◌*◌, ◌≤◌, drop}
-use Rattle.std.specs.List.{sum_by}
-use Rattle.drawing_weights.specs.Weights.{walk_weight}
-use Rattle.octi_moves.specs.Lightest.{walk_of, weight_at}
+use Rattle.octi_moves.specs.Lightest.{walk_of}
+use Rattle.octi_moves.proofs.Common.{sum_by, walk_weight, weight_at}
 use Rattle.octi_moves.proofs.lightest.weight_at.Given as goal
 
 -- what the node and the walks so far weigh, and those that are left

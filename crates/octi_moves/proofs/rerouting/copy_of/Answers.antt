@@ -1,7 +1,6 @@
 use Rattle.std.proofs.Common.{◌≡◌, ◌∙◌, ap, refl, subst, sym, Option}
-use Rattle.std.specs.Option.{IsSome}
 use Rattle.octi_grid.specs.Runs.{are_runs, steps_of}
-use Rattle.octi_grid.specs.Walks.{PlainWalk}
+use Rattle.octi_moves.proofs.Common.{IsSome, PlainWalk}
 use Rattle.octi_moves.proofs.Copies.{walk_again}
 use Rattle.octi_moves.proofs.rerouting.copy_of.Goals as goal
 

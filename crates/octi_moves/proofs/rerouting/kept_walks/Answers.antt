@@ -1,9 +1,6 @@
 use Rattle.std.proofs.Common.{◌∙◌, ◌++◌, ◌<◌, ◌∷◌, [], cond, get_or, length, sym, ap, refl, arith, List, Option, Some, None}
-use Rattle.std.proofs.lemmas.List.{take_all, take_more}
-use Rattle.std.proofs.lemmas.Option.{slice_get-get_or, slice_get_read}
-use Rattle.octi_grid.specs.Walks.{PlainWalk}
-use Rattle.drawing_weights.proofs.DrawnFacts.{no_ends}
-use Rattle.octi_moves.specs.Moves.{kept_walks}
+use Rattle.octi_moves.proofs.Common.{kept_walks, no_ends, slice_get-get_or, slice_get_read, take_all, take_more}
+use Rattle.octi_moves.proofs.Common.{PlainWalk}
 use Rattle.octi_moves.proofs.KeptWalks.{kept_each, kept_value}
 use Rattle.octi_moves.proofs.rerouting.kept_walks.Goals as goal
 

@@ -1,15 +1,7 @@
 use Rattle.std.proofs.Common.{◌≡◌, ◌∙◌, true, List, Option, option_map, sym, ap, subst}
-use Rattle.std.specs.List.{list_all}
-use Rattle.std.specs.Option.{IfSome}
-use Rattle.map_base.specs.declared.ids.SegId.{SegId}
-use Rattle.octi_grid.specs.declared.point.GridPoint.{GridPoint}
-use Rattle.octi_grid.specs.Legal.{is_even}
-use Rattle.octi_grid.specs.Walks.{PlainWalk}
-use Rattle.grid_board.specs.Boards.{contains}
-use Rattle.segment_router.specs.Standing.{are_inside, routed_again, standing}
-use Rattle.segment_router.specs.Underway.{IsUnderway}
-use Rattle.octi_moves.specs.Moves.{kept_walks, moved_to, points_with}
-use Rattle.octi_moves.specs.Standing.{IsStanding}
+use Rattle.octi_moves.proofs.Common.{are_inside, contains, is_even, kept_walks, list_all, moved_to, points_with}
+use Rattle.octi_moves.proofs.Common.{routed_again, standing, GridPoint, IfSome, IsStanding, IsUnderway, PlainWalk}
+use Rattle.octi_moves.proofs.Common.{SegId}
 use Rattle.octi_moves.proofs.FieldUse.{bounds_fit}
 use Rattle.octi_moves.proofs.MovedUse.{all_even, all_within, kept_inside, moved_standing, ok_more, segs_there, some_items, underway_there}
 use Rattle.octi_moves.proofs.rerouting.moved_to.Goals as goal

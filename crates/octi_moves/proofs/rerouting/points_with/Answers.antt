@@ -1,6 +1,5 @@
 use Rattle.std.proofs.Common.{ap, length, arith}
-use Rattle.std.proofs.lemmas.List.FromFn.{length-map-range_with_len}
-use Rattle.drawing_weights.specs.Weights.{point_of}
+use Rattle.octi_moves.proofs.Common.{length-map-range_with_len, point_of}
 use Rattle.octi_moves.proofs.rerouting.points_with.Goals as goal
 
 pub index_mut-requires : goal.index_mut-requires

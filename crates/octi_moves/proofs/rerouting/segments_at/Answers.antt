@@ -1,9 +1,5 @@
 use Rattle.std.proofs.Common.{◌∙◌, ◌+◌, ◌++◌, ◌<◌, ◌∷◌, [], append-nil, cond, drop, length, sym, ap, arith, List}
-use Rattle.std.proofs.lemmas.List.{drop_all}
-use Rattle.map_base.specs.declared.ids.NodeId.{NodeId}
-use Rattle.map_base.specs.declared.ids.SegId.{SegId}
-use Rattle.graph_core.specs.Round.{segments_from}
-use Rattle.segment_router.proofs.Places.{seg_at}
+use Rattle.octi_moves.proofs.Common.{drop_all, seg_at, segments_from, NodeId, SegId}
 use Rattle.octi_moves.proofs.SegmentsAt.{segs_more}
 use Rattle.octi_moves.proofs.rerouting.segments_at.Goals as goal
 

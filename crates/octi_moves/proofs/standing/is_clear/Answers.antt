@@ -1,8 +1,5 @@
 use Rattle.std.proofs.Common.{◌∙◌, Bool, not, ◌&&◌, ap, sym, List}
-use Rattle.std.specs.List.{list_any}
-use Rattle.octi_grid.specs.declared.point.GridPoint.{GridPoint}
-use Rattle.octi_grid.specs.Legal.{is_among, legs_of}
-use Rattle.octi_moves.specs.Moves.{is_in_the_way}
+use Rattle.octi_moves.proofs.Common.{is_among, is_in_the_way, legs_of, list_any, GridPoint}
 use Rattle.octi_moves.proofs.Beside.{among_beside}
 use Rattle.octi_moves.proofs.standing.is_clear.Goals as goal
 

@@ -1,6 +1,5 @@
 use Rattle.std.proofs.Common.{◌≡◌, drop, length}
-use Rattle.std.specs.List.{list_any, range_with_len}
-use Rattle.octi_moves.specs.Moves.{is_other_node}
+use Rattle.octi_moves.proofs.Common.{is_other_node, list_any, range_with_len}
 use Rattle.octi_moves.proofs.standing.is_other_node.Given as goal
 
 -- some node is there where one of those that are left is

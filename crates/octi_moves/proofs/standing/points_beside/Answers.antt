@@ -1,13 +1,8 @@
 use Rattle.std.proofs.Common.{◌≡◌, ◌∙◌, ◌++◌, ◌<◌, ◌∷◌, [], cond, get_or, length, sym, ap, refl, arith, List, take}
-use Rattle.std.specs.List.{flat_map}
-use Rattle.std.proofs.lemmas.List.{flat_map_more, take_all, take_more}
-use Rattle.std.proofs.lemmas.Option.{get_or_from_slice_get, slice_get-get_or, slice_get_read}
 use Rattle.std.proofs.lemmas.Slice.Zip.{length-zip}
-use Rattle.octi_grid.specs.declared.point.GridPoint.{GridPoint}
-use Rattle.octi_grid.specs.Legal.{legs_of, Leg}
-use Rattle.octi_grid.specs.Walks.{points_of}
-use Rattle.drawing_weights.proofs.DrawnFacts.{leg_place, no_ends}
-use Rattle.octi_moves.specs.Lightest.{points_beside}
+use Rattle.octi_moves.proofs.Common.{flat_map, flat_map_more, get_or_from_slice_get, leg_place, legs_of, no_ends}
+use Rattle.octi_moves.proofs.Common.{points_beside, points_of, slice_get-get_or, slice_get_read, take_all, take_more}
+use Rattle.octi_moves.proofs.Common.{GridPoint, Leg}
 use Rattle.octi_moves.proofs.standing.points_beside.Goals as goal
 
 pub loop-s-preserved : goal.loop-s-preserved

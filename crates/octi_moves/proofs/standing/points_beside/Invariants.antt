@@ -1,7 +1,5 @@
 use Rattle.std.proofs.Common.{◌≡◌, take}
-use Rattle.std.specs.List.{flat_map}
-use Rattle.octi_grid.specs.Legal.{legs_of}
-use Rattle.octi_moves.specs.Lightest.{points_beside}
+use Rattle.octi_moves.proofs.Common.{flat_map, legs_of, points_beside}
 use Rattle.octi_moves.proofs.standing.points_beside.Given as goal
 
 -- the points beside of the first walks

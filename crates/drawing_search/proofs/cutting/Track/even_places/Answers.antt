@@ -1,10 +1,5 @@
 use Rattle.std.proofs.Common.{◌≡◌, ℕ, ◌++◌, ◌∷◌, [], List, cond, filter, length, sym, ap, ap₂, ◌∙◌, arith}
-use Rattle.std.proofs.lemmas.List.{get_or_read}
-use Rattle.std.specs.List.{range_with_len}
-use Rattle.octi_grid.specs.declared.point.GridPoint.{GridPoint}
-use Rattle.octi_grid.specs.Legal.{is_even}
-use Rattle.segment_router.proofs.SettledLemmas.{nowhere}
-use Rattle.run_laying.specs.Pieces.{point_at}
+use Rattle.drawing_search.proofs.Common.{get_or_read, is_even, nowhere, point_at, range_with_len, GridPoint}
 use Rattle.drawing_search.proofs.Ranges.{filter_more}
 use Rattle.drawing_search.proofs.cutting.Track.even_places.Goals as goal
 

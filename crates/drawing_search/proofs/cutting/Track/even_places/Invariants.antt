@@ -1,8 +1,5 @@
 use Rattle.std.proofs.Common.{◌≡◌}
-use Rattle.std.specs.Prelude.{filter}
-use Rattle.std.specs.List.{range_with_len}
-use Rattle.octi_grid.specs.Legal.{is_even}
-use Rattle.run_laying.specs.Pieces.{point_at}
+use Rattle.drawing_search.proofs.Common.{filter, is_even, point_at, range_with_len}
 use Rattle.drawing_search.proofs.cutting.Track.even_places.Given as goal
 
 -- the places so far

@@ -1,8 +1,5 @@
 use Rattle.std.proofs.Common.{◌∙◌, ◌++◌, sym, ap, subst, List}
-use Rattle.octi_grid.specs.declared.dir.Dir.{Dir}
-use Rattle.octi_grid.specs.declared.point.GridPoint.{GridPoint}
-use Rattle.octi_grid.specs.Walks.{points_of}
-use Rattle.drawing_search.specs.Tracks.{IsTrack}
+use Rattle.drawing_search.proofs.Common.{points_of, Dir, GridPoint, IsTrack}
 use Rattle.drawing_search.proofs.LaySteps.{track_of}
 use Rattle.drawing_search.proofs.cutting.Track.of.Goals as goal
 

@@ -1,12 +1,6 @@
 use Rattle.std.proofs.Common.{◌≡◌, ℕ, ◌+◌, ◌-◌, ◌<◌, List, [], ◌∷◌, ◌++◌, length, get_or, take, drop, sym, ap, ap₂, subst, ◌∙◌, arith}
-use Rattle.std.proofs.lemmas.List.{drop_more, get_or_read}
-use Rattle.octi_grid.specs.declared.dir.Dir.{Dir}
-use Rattle.octi_grid.specs.declared.point.GridPoint.{GridPoint}
-use Rattle.octi_grid.specs.Ways.{step_from, IsWithin}
-use Rattle.octi_grid.specs.Walks.{end_point, PlainWalk}
-use Rattle.segment_router.proofs.SettledLemmas.{nowhere}
-use Rattle.run_laying.specs.Pieces.{point_at}
-use Rattle.drawing_search.specs.Tracks.{piece_along, IsTrack}
+use Rattle.drawing_search.proofs.Common.{drop_more, end_point, get_or_read, nowhere, piece_along, point_at, step_from}
+use Rattle.drawing_search.proofs.Common.{Dir, GridPoint, IsTrack, IsWithin, PlainWalk}
 use Rattle.drawing_search.proofs.Steps.{long, on_step, piece_end, piece_more, point_within}
 use Rattle.drawing_search.proofs.cutting.Track.piece.Goals as goal
 
@@ -23,19 +17,18 @@ first_step ds i d h = let one : i + 1 - i ≡ 1 = omega arith in ap₂ (λ n (v 
 pub index-requires : goal.index-requires
 index-requires c = omega (arith, long c.args.self.now.points.items c.args.self.now.steps.items c.requires.track, c.requires.order, c.requires.within)
 
-pub of_step-requires-clause-start : goal.of_step-requires-clause-start
-of_step-requires-clause-start c =
+pub of_step-requires : goal.of_step-requires
+of_step-requires c =
     let ps = c.args.self.now.points.items in
     let ds = c.args.self.now.steps.items in
-    subst IsWithin (sym (get_or_read ps c.args.from c.index.result.now (omega (arith, long ps ds c.requires.track, c.requires.order, c.requires.within)) c.index.ensures nowhere))
-    (point_within ps ds c.requires.track c.args.from (omega (arith, c.requires.order, c.requires.within)))
-
-pub of_step-requires-clause-end : goal.of_step-requires-clause-end
-of_step-requires-clause-end c =
-    let ps = c.args.self.now.points.items in
-    let ds = c.args.self.now.steps.items in
-    within_next ps ds c.requires.track c.args.from c.index.result.now c.index-2.result.now (omega (arith, c.requires.order, c.requires.within))
-    (get_or_read ps c.args.from c.index.result.now (omega (arith, long ps ds c.requires.track, c.requires.order, c.requires.within)) c.index.ensures nowhere) c.index-2.ensures
+    record {
+      start =
+          subst IsWithin (sym (get_or_read ps c.args.from c.index.result.now (omega (arith, long ps ds c.requires.track, c.requires.order, c.requires.within)) c.index.ensures nowhere))
+          (point_within ps ds c.requires.track c.args.from (omega (arith, c.requires.order, c.requires.within)));
+      end =
+          within_next ps ds c.requires.track c.args.from c.index.result.now c.index-2.result.now (omega (arith, c.requires.order, c.requires.within))
+          (get_or_read ps c.args.from c.index.result.now (omega (arith, long ps ds c.requires.track, c.requires.order, c.requires.within)) c.index.ensures nowhere) c.index-2.ensures;
+    }
 
 pub loop-i-init : goal.loop-i-init
 loop-i-init c =

@@ -1,14 +1,7 @@
 use Rattle.std.proofs.Common.{◌≡◌, ℕ, suc, ◌+◌, ◌-◌, ◌<◌, List, [], ◌∷◌, ◌++◌, length, map, reverse, get_or, take, drop, sym, ap, ap₂, subst, ◌∙◌, arith}
-use Rattle.std.proofs.lemmas.List.{get_or_read}
-use Rattle.octi_grid.specs.declared.dir.Dir.{Dir}
-use Rattle.octi_grid.specs.declared.point.GridPoint.{GridPoint}
-use Rattle.octi_grid.specs.Ways.{reverse_of, step_from, IsWithin}
-use Rattle.octi_grid.specs.Walks.{end_point, PlainWalk}
-use Rattle.segment_router.proofs.SettledLemmas.{nowhere}
-use Rattle.walk_search.proofs.Turning.{step_back}
-use Rattle.run_laying.specs.Pieces.{point_at, reversed_walk}
-use Rattle.run_laying.proofs.Reversed.{back_end}
-use Rattle.drawing_search.specs.Tracks.{piece_along, IsTrack}
+use Rattle.drawing_search.proofs.Common.{back_end, end_point, get_or_read, nowhere, piece_along, point_at, reverse_of}
+use Rattle.drawing_search.proofs.Common.{reversed_walk, step_back, step_from, Dir, GridPoint, IsTrack, IsWithin}
+use Rattle.drawing_search.proofs.Common.{PlainWalk}
 use Rattle.drawing_search.proofs.Steps.{back_more, long, on_step, piece_end, point_within}
 use Rattle.drawing_search.proofs.cutting.Track.piece_back.Goals as goal
 
@@ -48,19 +41,17 @@ one_step ps ds t b i w d e h within is there turned =
 pub index-requires : goal.index-requires
 index-requires c = omega (arith, long c.args.self.now.points.items c.args.self.now.steps.items c.requires.track, c.requires.order, c.requires.within)
 
-pub of_step-requires-clause-start : goal.of_step-requires-clause-start
-of_step-requires-clause-start c =
-    let ps = c.args.self.now.points.items in
-    let ds = c.args.self.now.steps.items in
-    subst IsWithin (sym (get_or_read ps c.args.to c.index.result.now (omega (arith, long ps ds c.requires.track, c.requires.within)) c.index.ensures nowhere)) (point_within ps ds c.requires.track c.args.to c.requires.within)
-
-pub of_step-requires-clause-end : goal.of_step-requires-clause-end
-of_step-requires-clause-end c =
+pub of_step-requires : goal.of_step-requires
+of_step-requires c =
     let ps = c.args.self.now.points.items in
     let ds = c.args.self.now.steps.items in
     let whole : c.args.to ≡ c.args.to - 1 + 1 = omega (arith, c.requires.order) in
-    within_back ps ds c.requires.track (c.args.to - 1) c.index.result.now c.index-2.result.now c.reverse.result (omega (arith, c.requires.order, c.requires.within))
-    (get_or_read ps c.args.to c.index.result.now (omega (arith, long ps ds c.requires.track, c.requires.within)) c.index.ensures nowhere ∙ ap (point_at ps) whole) c.index-2.ensures c.reverse.ensures
+    record {
+      start = subst IsWithin (sym (get_or_read ps c.args.to c.index.result.now (omega (arith, long ps ds c.requires.track, c.requires.within)) c.index.ensures nowhere)) (point_within ps ds c.requires.track c.args.to c.requires.within);
+      end =
+          within_back ps ds c.requires.track (c.args.to - 1) c.index.result.now c.index-2.result.now c.reverse.result (omega (arith, c.requires.order, c.requires.within))
+          (get_or_read ps c.args.to c.index.result.now (omega (arith, long ps ds c.requires.track, c.requires.within)) c.index.ensures nowhere ∙ ap (point_at ps) whole) c.index-2.ensures c.reverse.ensures;
+    }
 
 pub loop-i-init : goal.loop-i-init
 loop-i-init c =

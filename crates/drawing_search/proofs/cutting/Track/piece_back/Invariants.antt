@@ -1,6 +1,5 @@
 use Rattle.std.proofs.Common.{◌≡◌, ◌-◌}
-use Rattle.run_laying.specs.Pieces.{reversed_walk}
-use Rattle.drawing_search.specs.Tracks.{piece_along}
+use Rattle.drawing_search.proofs.Common.{piece_along, reversed_walk}
 use Rattle.drawing_search.proofs.cutting.Track.piece_back.Given as goal
 
 -- the walk so far

@@ -1,10 +1,6 @@
 use Rattle.std.proofs.Common.{◌≡◌, refl, sym, ◌∙◌, ap, ℕ, ◌+◌, ◌-◌, ◌<◌, ◌≤◌, Bool, true, false, cond, List, ◌∷◌, length, filter, drop, get_or, arith}
-use Rattle.map_base.specs.declared.ids.NodeId.{NodeId}
-use Rattle.graph_core.specs.declared.parts.GraphParts.{GraphParts}
-use Rattle.line_chains.specs.declared.chain.ChainStep.{ChainStep}
-use Rattle.drawing_weights.specs.Scales.{scale_of, Scale}
-use Rattle.run_laying.specs.Attempts.{inner_nodes}
-use Rattle.drawing_search.specs.Least.{free_nodes, is_free_node}
+use Rattle.drawing_search.proofs.Common.{free_nodes, inner_nodes, is_free_node, scale_of, ChainStep, GraphParts, NodeId}
+use Rattle.drawing_search.proofs.Common.{Scale}
 use Rattle.drawing_search.proofs.RunEnds.{inner_end, inner_more}
 use Rattle.drawing_search.proofs.RunReads.{no_step}
 use Rattle.drawing_search.proofs.gains.Field.free_nodes.Goals as goal

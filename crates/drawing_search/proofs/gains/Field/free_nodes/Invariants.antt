@@ -1,6 +1,5 @@
 use Rattle.std.proofs.Common.{◌≡◌, ◌+◌, ◌-◌, ◌≤◌, drop, length}
-use Rattle.drawing_weights.specs.Scales.{scale_of}
-use Rattle.drawing_search.specs.Least.{free_nodes}
+use Rattle.drawing_search.proofs.Common.{free_nodes, scale_of}
 use Rattle.drawing_search.proofs.gains.Field.free_nodes.Given as goal
 
 -- the nodes so far, and those of the steps that are left

@@ -1,23 +1,10 @@
 use Rattle.std.proofs.Common.{refl, sym, ◌∙◌, ap, ap₂, subst, ℕ, ◌-◌, ◌*◌, ◌<◌, Option, None, List, length, map, fold, get_or, replicate, arith}
-use Rattle.std.proofs.lemmas.List.{get_or-replicate, take_all}
-use Rattle.std.proofs.lemmas.List.Sums.{fold_more}
-use Rattle.map_base.specs.declared.ids.NodeId.{NodeId}
-use Rattle.map_base.specs.declared.ids.SegId.{SegId}
-use Rattle.line_chains.specs.declared.chain.ChainStep.{ChainStep}
-use Rattle.octi_grid.specs.declared.dir.Dir.{Dir}
 use Rattle.octi_grid.specs.declared.dir.Dir.TheVariants as dir
-use Rattle.octi_grid.specs.Ways.{number_of}
-use Rattle.drawing_weights.specs.Scales.{scale_of}
-use Rattle.walk_search.specs.Moves.{direction}
-use Rattle.walk_search.specs.Routes.{directions}
-use Rattle.walk_search.proofs.Turning.{number_of-direction}
-use Rattle.drawing_search.specs.declared.least.LeastTurns.{LeastTurns}
-use Rattle.drawing_search.specs.Bounds.{overs_by, with_first_by}
-use Rattle.drawing_search.specs.Gains.{AreOnGraph}
-use Rattle.drawing_search.specs.Least.{free_nodes, turn_price}
+use Rattle.drawing_search.proofs.Common.{direction, directions, fold_more, free_nodes, get_or-replicate, number_of}
+use Rattle.drawing_search.proofs.Common.{number_of-direction, overs_by, scale_of, take_all, turn_price, with_first_by}
+use Rattle.drawing_search.proofs.Common.{AreOnGraph, ChainStep, Dir, LeastTurns, NodeId, SegId}
 use Rattle.drawing_search.proofs.FewSteps.{run_few}
-use Rattle.drawing_search.proofs.LeastSteps.{least_of, never_small}
-use Rattle.drawing_search.proofs.LeastTurning.{least_of_all}
+use Rattle.drawing_search.proofs.LeastTurning.{least_of_all, least_of, never_small}
 use Rattle.drawing_search.proofs.RunReads.{no_step, reads_end, reads_first, reads_last, run_from, run_on_graph, run_to}
 use Rattle.drawing_search.proofs.gains.Field.least_turns.Goals as goal
 

@@ -1,9 +1,5 @@
 use Rattle.std.proofs.Common.{◌≡◌, None, fold, get_or, take}
-use Rattle.octi_grid.specs.declared.dir.Dir.{Dir}
-use Rattle.octi_grid.specs.Ways.{number_of}
-use Rattle.walk_search.specs.Routes.{directions}
-use Rattle.drawing_search.specs.declared.least.LeastTurns.{LeastTurns}
-use Rattle.drawing_search.specs.Bounds.{with_first_by, IsSmallLeast}
+use Rattle.drawing_search.proofs.Common.{directions, number_of, with_first_by, Dir, IsSmallLeast, LeastTurns}
 use Rattle.drawing_search.proofs.gains.Field.least_turns.Given as goal
 
 -- the ports so far

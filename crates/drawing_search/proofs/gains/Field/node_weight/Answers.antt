@@ -1,13 +1,8 @@
 use Rattle.std.proofs.Common.{◌≡◌, ◌∙◌, ◌+◌, ◌*◌, true, cond, sym, ap, ap₂, subst, arith}
-use Rattle.std.proofs.lemmas.List.{take_all}
-use Rattle.std.proofs.lemmas.List.Sums.{sum_by_more}
-use Rattle.std.specs.List.{sum_by}
-use Rattle.octi_grid.specs.declared.point.GridPoint.{GridPoint}
-use Rattle.grid_board.specs.Points.{is_near}
-use Rattle.drawing_weights.specs.Scales.{apart_weight_by, scale_of}
-use Rattle.drawing_search.specs.Gains.{apart_in, first_point, turn_in}
+use Rattle.drawing_search.proofs.Common.{apart_in, apart_weight_by, first_point, is_near, scale_of, sum_by, sum_by_more}
+use Rattle.drawing_search.proofs.Common.{take_all, turn_in, GridPoint}
 use Rattle.drawing_search.proofs.FieldFacts.{no_pair, pair_at, pairs_held, pairs_read, turns_small}
-use Rattle.drawing_search.proofs.Nearby.{stands_near}
+use Rattle.drawing_search.proofs.Takable.{stands_near}
 use Rattle.drawing_search.proofs.gains.Field.node_weight.Goals as goal
 
 pub at-pair-items-requires : goal.at-pair-items-requires

@@ -1,7 +1,5 @@
 use Rattle.std.proofs.Common.{◌*◌, sym, ◌∙◌, ap, cond, eqb, Some, None}
-use Rattle.std.specs.Int.{bit_at}
-use Rattle.octi_grid.specs.Ways.{number_of}
-use Rattle.drawing_search.specs.Gains.{turns_by}
+use Rattle.drawing_search.proofs.Common.{bit_at, number_of, turns_by}
 use Rattle.drawing_search.proofs.gains.Field.over_by.Goals as goal
 
 pub returns-then-not-allows-clause-value : goal.returns-then-not-allows-clause-value

@@ -1,9 +1,5 @@
 use Rattle.std.proofs.Common.{refl, sym, ◌∙◌, ap, subst, ◌<◌, ◌≢◌, None, length, below_more, length-set, get_or-set_other, get_or-set_same, arith}
-use Rattle.std.proofs.lemmas.List.{get_or_default}
-use Rattle.std.proofs.lemmas.List.FromFn.{fill_by_all}
-use Rattle.drawing_weights.specs.Scales.{scale_of}
-use Rattle.walk_search.specs.Moves.{direction}
-use Rattle.drawing_search.specs.Bounds.{overs_by, IsSmallOver}
+use Rattle.drawing_search.proofs.Common.{direction, fill_by_all, get_or_default, overs_by, scale_of, IsSmallOver}
 use Rattle.drawing_search.proofs.gains.Field.overs_at.Goals as goal
 
 pub loop-i-init : goal.loop-i-init

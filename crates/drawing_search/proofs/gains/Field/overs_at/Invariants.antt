@@ -1,7 +1,5 @@
 use Rattle.std.proofs.Common.{◌≡◌, ℕ, ◌<◌, None, length, get_or}
-use Rattle.drawing_weights.specs.Scales.{scale_of}
-use Rattle.walk_search.specs.Moves.{direction}
-use Rattle.drawing_search.specs.Bounds.{overs_by, IsSmallOver}
+use Rattle.drawing_search.proofs.Common.{direction, overs_by, scale_of, IsSmallOver}
 use Rattle.drawing_search.proofs.gains.Field.overs_at.Given as goal
 
 -- the ports so far

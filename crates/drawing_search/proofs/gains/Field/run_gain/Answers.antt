@@ -1,12 +1,6 @@
 use Rattle.std.proofs.Common.{◌≡◌, ◌∙◌, sym, ap, ap₂, subst, ◌+◌, ◌*◌, ◌<◌, true, List, length, arith}
-use Rattle.map_base.specs.declared.ids.NodeId.{NodeId}
-use Rattle.map_base.specs.declared.ids.SegId.{SegId}
-use Rattle.line_chains.specs.declared.chain.ChainStep.{ChainStep}
-use Rattle.drawing_weights.specs.Scales.{scale_of}
-use Rattle.drawing_search.specs.Gains.{steps_gain, turns_from, AreOnGraph}
-use Rattle.run_laying.specs.Attempts.{inner_nodes}
-use Rattle.run_laying.specs.Sketches.{is_standing}
-use Rattle.std.specs.Prelude.{All}
+use Rattle.drawing_search.proofs.Common.{inner_nodes, is_standing, scale_of, steps_gain, turns_from, All, AreOnGraph}
+use Rattle.drawing_search.proofs.Common.{ChainStep, NodeId, SegId}
 use Rattle.drawing_search.proofs.FewSteps.{run_few}
 use Rattle.drawing_search.proofs.RunReads.{reads_end, reads_first, reads_last, run_from, run_on_graph, run_to}
 use Rattle.drawing_search.proofs.gains.Field.run_gain.Goals as goal

@@ -1,7 +1,6 @@
 use Rattle.std.proofs.Common.{◌≡◌, true, sym, subst}
-use Rattle.octi_grid.specs.declared.point.GridPoint.{GridPoint}
-use Rattle.grid_board.specs.Points.{is_near}
-use Rattle.drawing_search.proofs.Nearby.{stands_near}
+use Rattle.drawing_search.proofs.Common.{is_near, GridPoint}
+use Rattle.drawing_search.proofs.Takable.{stands_near}
 use Rattle.drawing_search.proofs.gains.Field.step_gain.Goals as goal
 
 pub apart_weight-requires-clause-near : goal.apart_weight-requires-clause-near

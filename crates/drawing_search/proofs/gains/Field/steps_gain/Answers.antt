@@ -1,9 +1,5 @@
 use Rattle.std.proofs.Common.{◌+◌, length, arith}
-use Rattle.std.proofs.lemmas.Bool.{ltb-true}
-use Rattle.std.proofs.lemmas.List.{at_drop_all}
-use Rattle.line_chains.specs.declared.chain.ChainStep.{ChainStep}
-use Rattle.drawing_weights.specs.Scales.{scale_of}
-use Rattle.drawing_search.specs.Gains.{steps_gain}
+use Rattle.drawing_search.proofs.Common.{at_drop_all, ltb-true, scale_of, steps_gain, ChainStep}
 use Rattle.drawing_search.proofs.FieldFacts.{gain_more}
 use Rattle.drawing_search.proofs.RunReads.{inner_stands}
 use Rattle.drawing_search.proofs.gains.Field.steps_gain.Goals as goal

@@ -1,6 +1,5 @@
 use Rattle.std.proofs.Common.{◌≡◌, ◌+◌, ◌*◌, ◌≤◌, drop}
-use Rattle.drawing_weights.specs.Scales.{scale_of}
-use Rattle.drawing_search.specs.Gains.{steps_gain}
+use Rattle.drawing_search.proofs.Common.{scale_of, steps_gain}
 use Rattle.drawing_search.proofs.gains.Field.steps_gain.Given as goal
 
 -- what the steps so far add, and those that are left

@@ -1,6 +1,5 @@
 use Rattle.std.proofs.Common.{◌≡◌, ◌*◌, ◌≤◌, length, take}
-use Rattle.std.specs.List.{sum_by}
-use Rattle.drawing_search.specs.Gains.{turn_by}
+use Rattle.drawing_search.proofs.Common.{sum_by, turn_by}
 use Rattle.drawing_search.proofs.gains.Field.turns_by.Given as goal
 
 -- the turns so far, each of them of 180 degrees at most

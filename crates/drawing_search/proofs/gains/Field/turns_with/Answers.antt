@@ -1,8 +1,5 @@
 use Rattle.std.proofs.Common.{◌*◌, ap, ◌∙◌, arith}
-use Rattle.std.proofs.lemmas.List.{take_all}
-use Rattle.std.proofs.lemmas.List.Sums.{sum_by_more}
-use Rattle.std.specs.List.{sum_by}
-use Rattle.drawing_search.specs.Gains.{turn_if}
+use Rattle.drawing_search.proofs.Common.{sum_by, sum_by_more, take_all, turn_if}
 use Rattle.drawing_search.proofs.FieldFacts.{no_pair, pair_at, pairs_held, pairs_read, turns_small}
 use Rattle.drawing_search.proofs.gains.Field.turns_with.Goals as goal
 

@@ -1,8 +1,6 @@
 use Rattle.std.proofs.Common.{◌∙◌, ◌<◌, None, List, Option, length, get_or, sym, ap, arith}
-use Rattle.std.proofs.lemmas.List.{get_or_read}
-use Rattle.octi_grid.specs.Walks.{PlainWalk}
-use Rattle.run_laying.specs.Laying.{Sketch}
-use Rattle.drawing_search.proofs.Nearby.{walk_short}
+use Rattle.drawing_search.proofs.Common.{get_or_read, PlainWalk, Sketch}
+use Rattle.drawing_search.proofs.Takable.{walk_short}
 use Rattle.drawing_search.proofs.gains.Field.walk_at.Goals as goal
 
 pub walk_weight-requires-clause-short : goal.walk_weight-requires-clause-short

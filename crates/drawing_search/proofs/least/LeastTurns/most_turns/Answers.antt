@@ -1,6 +1,5 @@
 use Rattle.std.proofs.Common.{◌/◌, cond, sym, ap, arith}
-use Rattle.std.proofs.Math.Nat.{div-le_self}
-use Rattle.std.proofs.lemmas.Bool.{eq-eqb, ne_eqb}
+use Rattle.drawing_search.proofs.Common.{div-le_self, eq-eqb, ne_eqb}
 use Rattle.drawing_search.proofs.least.LeastTurns.most_turns.Goals as goal
 
 pub returns-then-self-eq0-clause-value : goal.returns-then-self-eq0-clause-value

@@ -1,6 +1,5 @@
 use Rattle.std.proofs.Common.{◌≡◌, refl, ◌∙◌, ap, ap₂, ℕ, ◌+◌, ◌-◌, ◌/◌, Bool, true, false, cond, eqb, arith}
-use Rattle.std.specs.Prelude.{slice_index}
-use Rattle.drawing_search.specs.Least.{straight_way}
+use Rattle.drawing_search.proofs.Common.{slice_index, straight_way}
 use Rattle.drawing_search.proofs.least.LeastTurns.walk_limit.Goals as goal
 
 either_way : (b : Bool) (left free share : ℕ) → left + cond b free share ≡ cond b (left + free) (left + share)

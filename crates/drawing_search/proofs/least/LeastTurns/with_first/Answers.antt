@@ -1,14 +1,7 @@
 use Rattle.std.proofs.Common.{refl, sym, subst, ◌∙◌, ap, ap₂, ℕ, ◌<◌, Option, None, List, fold, get_or, arith}
-use Rattle.std.proofs.lemmas.List.{take_all}
-use Rattle.std.proofs.lemmas.List.Sums.{fold_more}
-use Rattle.octi_grid.specs.declared.dir.Dir.{Dir}
 use Rattle.octi_grid.specs.declared.dir.Dir.TheVariants as dir
-use Rattle.octi_grid.specs.Ways.{number_of}
-use Rattle.walk_search.specs.Moves.{direction}
-use Rattle.walk_search.specs.Routes.{directions}
-use Rattle.walk_search.proofs.Turning.{number_of-direction}
-use Rattle.drawing_search.specs.declared.least.LeastTurns.{LeastTurns}
-use Rattle.drawing_search.specs.Bounds.{with_first_by, with_last_by, IsSmallOver}
+use Rattle.drawing_search.proofs.Common.{direction, directions, fold_more, number_of, number_of-direction, take_all}
+use Rattle.drawing_search.proofs.Common.{with_first_by, with_last_by, Dir, IsSmallOver, LeastTurns}
 use Rattle.drawing_search.proofs.least.LeastTurns.with_first.Goals as goal
 
 pub loop-i-init : goal.loop-i-init

@@ -1,6 +1,6 @@
 use Rattle.std.proofs.Common.{◌≡◌, refl, sym, subst, ◌∙◌, ap₂, ◌+◌, ◌*◌, ◌<◌, ◌≢◌, length, min, below_more, length-set, get_or-set_other, get_or-set_same, arith}
 use Rattle.drawing_search.specs.Bounds.{IsSmallLeast}
-use Rattle.drawing_search.proofs.LeastSteps.{walk_made, walk_small}
+use Rattle.drawing_search.proofs.LeastTurning.{walk_made, walk_small}
 use Rattle.drawing_search.proofs.least.LeastTurns.with_walk.Goals as goal
 
 pub loop-way-init : goal.loop-way-init

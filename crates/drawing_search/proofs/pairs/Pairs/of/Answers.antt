@@ -1,9 +1,5 @@
 use Rattle.std.proofs.Common.{◌∙◌, ◌∷◌, ◌++◌, [], List, ap, ap₂, map, sym, arith}
-use Rattle.std.specs.Prelude.{vec_items}
-use Rattle.std.proofs.lemmas.List.{map-append, map_more}
-use Rattle.map_base.specs.declared.ids.SegId.{SegId}
-use Rattle.segment_router.proofs.OrderLemmas.{read_at}
-use Rattle.drawing_weights.specs.Scales.{joined_pairs}
+use Rattle.drawing_search.proofs.Common.{joined_pairs, map-append, map_more, read_at, vec_items, SegId}
 use Rattle.drawing_search.proofs.pairs.Pairs.of.Goals as goal
 
 pub loop-n-preserved : goal.loop-n-preserved

@@ -1,6 +1,5 @@
 use Rattle.std.proofs.Common.{◌≡◌, map, take}
-use Rattle.std.specs.Prelude.{vec_items}
-use Rattle.drawing_weights.specs.Scales.{joined_pairs}
+use Rattle.drawing_search.proofs.Common.{joined_pairs, vec_items}
 use Rattle.drawing_search.proofs.pairs.Pairs.of.Given as goal
 
 -- the pairs of the nodes so far

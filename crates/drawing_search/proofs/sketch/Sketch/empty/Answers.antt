@@ -1,11 +1,7 @@
 use Rattle.std.proofs.Common.{◌≡◌, sym, ◌∙◌, ap, false, rules, length, replicate}
-use Rattle.grid_board.specs.Boards.{empty_board, BoardParts}
 use Rattle.grid_board.proofs.OnBoards.{shown_bounds}
-use Rattle.segment_router.proofs.RoutingLemmas.{bounds_read}
-use Rattle.run_laying.specs.Laying.{board_of}
-use Rattle.drawing_search.specs.Shown.{bare_sketch}
-use Rattle.drawing_search.proofs.BoardsOf.{board_bare}
-use Rattle.drawing_search.proofs.OnSketches.{same_sketch}
+use Rattle.drawing_search.proofs.Common.{bare_sketch, board_of, bounds_read, empty_board, BoardParts}
+use Rattle.drawing_search.proofs.BoardsOf.{board_bare, same_sketch}
 use Rattle.drawing_search.proofs.sketch.Sketch.empty.Goals as goal
 
 pub invariant_of-result : goal.invariant_of-result

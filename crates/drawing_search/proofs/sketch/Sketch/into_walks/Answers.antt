@@ -1,7 +1,5 @@
 use Rattle.std.proofs.Common.{◌≡◌, ap, subst, List}
-use Rattle.std.specs.Prelude.{IfOk}
-use Rattle.octi_grid.specs.Walks.{PlainWalk}
-use Rattle.drawing_search.specs.Trying.{walks_of}
+use Rattle.drawing_search.proofs.Common.{walks_of, IfOk, PlainWalk}
 use Rattle.drawing_search.proofs.sketch.Sketch.into_walks.Goals as goal
 
 pub returns : goal.returns

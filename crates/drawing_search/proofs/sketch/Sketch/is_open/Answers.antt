@@ -1,10 +1,7 @@
 use Rattle.std.proofs.Common.{◌≡◌, sym, ◌∙◌, ap, ap₂, subst, true, ◌&&◌, not, arith}
-use Rattle.octi_grid.specs.declared.point.GridPoint.{GridPoint}
-use Rattle.octi_grid.specs.Ways.{doubled}
-use Rattle.grid_board.specs.declared.bounds.Bounds.{Bounds}
-use Rattle.grid_board.specs.Boards.{contains, doubled_bounds, parts_of, BoardParts}
 use Rattle.grid_board.proofs.Ways.{doubled_inside}
-use Rattle.run_laying.specs.Laying.{board_of}
+use Rattle.drawing_search.proofs.Common.{board_of, contains, doubled, doubled_bounds, parts_of, BoardParts, Bounds}
+use Rattle.drawing_search.proofs.Common.{GridPoint}
 use Rattle.drawing_search.proofs.RunReads.{near_x, near_y}
 use Rattle.drawing_search.proofs.sketch.Sketch.is_open.Goals as goal
 

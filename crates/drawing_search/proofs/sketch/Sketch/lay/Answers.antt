@@ -1,10 +1,6 @@
 use Rattle.std.proofs.Common.{◌≡◌, refl, sym, ◌∙◌, ap, subst, ◌+◌, ◌<◌, true, false, nat_le, nat_lt, List, length, arith}
 use Rattle.std.proofs.lemmas.Result.{err_from_is_err_and}
-use Rattle.std.specs.Prelude.{option_map, vec_items}
-use Rattle.line_chains.specs.declared.chain.ChainStep.{ChainStep}
-use Rattle.octi_grid.specs.declared.point.GridPoint.{GridPoint}
-use Rattle.octi_grid.specs.Legal.{is_even}
-use Rattle.run_laying.specs.Pieces.{even_steps, point_at}
+use Rattle.drawing_search.proofs.Common.{even_steps, is_even, option_map, point_at, vec_items, ChainStep, GridPoint}
 use Rattle.drawing_search.proofs.FewSteps.{run_few}
 use Rattle.drawing_search.proofs.Laid.{cuts_none, none_laid, uncut_laid}
 use Rattle.drawing_search.proofs.LaySteps.{few_points, first_even, some_points}
@@ -18,29 +14,22 @@ returns-in_default c = (none_laid c.args.graph.now c.args.most c.args.run.now c.
 pub returns-in_err-track : goal.returns-in_err-track
 returns-in_err-track c = let p = err_from_is_err_and c.from_residual-in_err-track.result c.from_residual-in_err-track.ensures.1 in rw p.1 tt
 
-pub cuts-requires-clause-pieces : goal.cuts-requires-clause-pieces
-cuts-requires-clause-pieces c = omega (arith, c.requires.run.some, ap length c.as_slice-steps.ensures)
-
-pub cuts-requires-clause-few_pieces : goal.cuts-requires-clause-few_pieces
-cuts-requires-clause-few_pieces c = omega (arith, run_few c.args.graph.now c.requires.graph c.args.run.now c.requires.run, ap length c.as_slice-steps.ensures)
-
-pub cuts-requires-clause-some : goal.cuts-requires-clause-some
-cuts-requires-clause-some c =
+pub cuts-requires : goal.cuts-requires
+cuts-requires c =
     let found = sym c.in-Some.is ∙ c.in_ok-walk.ensures in
-    subst (λ (ps : List GridPoint). 0 < length ps) (sym c.in_ok-track.ensures.points)
-    (some_points c.args.graph.now c.requires.graph c.args.self.now c.requires.legal c.args.run.now c.requires.run c.requires.free c.args.most c.in-Some.walk found)
-
-pub cuts-requires-clause-few : goal.cuts-requires-clause-few
-cuts-requires-clause-few c =
-    let found = sym c.in-Some.is ∙ c.in_ok-walk.ensures in
-    subst (λ (ps : List GridPoint). length ps < 2147483648) (sym c.in_ok-track.ensures.points)
-    (few_points c.args.graph.now c.requires.graph c.args.self.now c.requires.legal c.args.run.now c.requires.run c.requires.free c.args.most c.in-Some.walk found)
-
-pub cuts-requires-clause-even : goal.cuts-requires-clause-even
-cuts-requires-clause-even c =
-    let found = sym c.in-Some.is ∙ c.in_ok-walk.ensures in
-    subst (λ (ps : List GridPoint). is_even (point_at ps 0) ≡ true) (sym c.in_ok-track.ensures.points)
-    (first_even c.args.graph.now c.requires.graph c.args.self.now c.requires.legal c.args.run.now c.requires.run c.requires.free c.args.most c.in-Some.walk found)
+    record {
+      pieces = omega (arith, c.requires.run.some, ap length c.as_slice-steps.ensures);
+      some =
+          subst (λ (ps : List GridPoint). 0 < length ps) (sym c.in_ok-track.ensures.points)
+          (some_points c.args.graph.now c.requires.graph c.args.self.now c.requires.legal c.args.run.now c.requires.run c.requires.free c.args.most c.in-Some.walk found);
+      few =
+          subst (λ (ps : List GridPoint). length ps < 2147483648) (sym c.in_ok-track.ensures.points)
+          (few_points c.args.graph.now c.requires.graph c.args.self.now c.requires.legal c.args.run.now c.requires.run c.requires.free c.args.most c.in-Some.walk found);
+      few_pieces = omega (arith, run_few c.args.graph.now c.requires.graph c.args.run.now c.requires.run, ap length c.as_slice-steps.ensures);
+      even =
+          subst (λ (ps : List GridPoint). is_even (point_at ps 0) ≡ true) (sym c.in_ok-track.ensures.points)
+          (first_even c.args.graph.now c.requires.graph c.args.self.now c.requires.legal c.args.run.now c.requires.run c.requires.free c.args.most c.in-Some.walk found);
+    }
 
 pub returns-in_err-cuts : goal.returns-in_err-cuts
 returns-in_err-cuts c = let p = err_from_is_err_and c.from_residual-in_err-cuts.result c.from_residual-in_err-cuts.ensures.1 in rw p.1 tt

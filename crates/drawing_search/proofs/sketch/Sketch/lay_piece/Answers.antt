@@ -1,15 +1,7 @@
 use Rattle.std.proofs.Common.{◌≡◌, ◌∙◌, Bool, true, false, cond, eqb, Some, sym, ap, subst, arith}
-use Rattle.std.specs.List.{list_all}
-use Rattle.map_base.specs.declared.ids.NodeId.{NodeId}
 use Rattle.line_chains.specs.Chains.{ends_of}
-use Rattle.octi_grid.specs.declared.point.GridPoint.{GridPoint}
-use Rattle.octi_grid.specs.Walks.{points_of, PlainWalk}
-use Rattle.grid_board.specs.Boards.{contains}
-use Rattle.segment_router.proofs.OrderLemmas.{read_at}
-use Rattle.run_laying.specs.Pieces.{reversed_walk}
-use Rattle.run_laying.specs.Sketches.{with_walk_of}
-use Rattle.run_laying.proofs.Reversed.{back_within}
-use Rattle.drawing_search.specs.Tracks.{piece_along}
+use Rattle.drawing_search.proofs.Common.{back_within, contains, list_all, piece_along, points_of, read_at}
+use Rattle.drawing_search.proofs.Common.{reversed_walk, with_walk_of, GridPoint, NodeId, PlainWalk}
 use Rattle.drawing_search.proofs.Steps.{piece_all}
 use Rattle.drawing_search.proofs.sketch.Sketch.lay_piece.Goals as goal
 

@@ -1,10 +1,7 @@
 use Rattle.std.proofs.Common.{◌≡◌, ◌∙◌, length, ap, arith}
-use Rattle.octi_grid.specs.declared.point.GridPoint.{GridPoint}
-use Rattle.grid_board.specs.Boards.{contains, parts_of, without_node}
-use Rattle.run_laying.specs.Laying.{Sketch}
-use Rattle.run_laying.specs.Sketches.{point_of_node}
-use Rattle.run_laying.proofs.Shown.{stands_below}
-use Rattle.drawing_search.proofs.OnSketches.{inside_kept, lifted_shown, lifted_view}
+use Rattle.drawing_search.proofs.Common.{contains, parts_of, point_of_node, stands_below, without_node, GridPoint}
+use Rattle.drawing_search.proofs.Common.{Sketch}
+use Rattle.drawing_search.proofs.BoardsOf.{inside_kept, lifted_shown, lifted_view}
 use Rattle.drawing_search.proofs.sketch.Sketch.lift.Goals as goal
 
 pub point-at-requires : goal.point-at-requires

@@ -1,9 +1,5 @@
 use Rattle.std.proofs.Common.{◌+◌, ◌-◌, ◌≤◌, length, fold, drop, sym, ap, subst, ◌∙◌}
-use Rattle.line_chains.specs.declared.chain.ChainStep.{ChainStep}
-use Rattle.run_laying.specs.Attempts.{inner_nodes}
-use Rattle.run_laying.specs.Laying.{Sketch}
-use Rattle.run_laying.specs.Sketches.{lifted}
-use Rattle.drawing_search.specs.Changes.{AreLiftable}
+use Rattle.drawing_search.proofs.Common.{inner_nodes, lifted, AreLiftable, ChainStep, Sketch}
 use Rattle.drawing_search.proofs.RunEnds.{inner_end, inner_left}
 use Rattle.drawing_search.proofs.Takable.{next_liftable}
 use Rattle.drawing_search.proofs.sketch.Sketch.lift_between.Goals as goal

@@ -1,7 +1,5 @@
 use Rattle.std.proofs.Common.{◌≡◌, ◌-◌, drop, fold}
-use Rattle.run_laying.specs.Attempts.{inner_nodes}
-use Rattle.run_laying.specs.Sketches.{lifted}
-use Rattle.drawing_search.specs.Changes.{AreLiftable}
+use Rattle.drawing_search.proofs.Common.{inner_nodes, lifted, AreLiftable}
 use Rattle.drawing_search.proofs.sketch.Sketch.lift_between.Given as goal
 
 -- the nodes that are left are taken off what there is

@@ -1,14 +1,7 @@
 use Rattle.std.proofs.Common.{◌≡◌, ◌+◌, ◌++◌, List, [], get_or, drop, sym, ap, ◌∙◌}
-use Rattle.std.proofs.lemmas.List.{append-nil, drop_all}
-use Rattle.map_base.specs.declared.ids.SegId.{SegId}
-use Rattle.octi_grid.specs.declared.dir.Dir.{Dir}
-use Rattle.segment_router.specs.Ports.{allowed_mask, port_in}
-use Rattle.segment_router.specs.Routes.{port_at_node}
 use Rattle.segment_router.specs.Underway.{known_ports, with_known}
-use Rattle.segment_router.proofs.MaskLemmas.{allowed_known}
-use Rattle.segment_router.proofs.OrderLemmas.{read_at}
-use Rattle.segment_router.proofs.RoutingLemmas.{known_more, round_within}
-use Rattle.run_laying.specs.Laying.{board_under}
+use Rattle.drawing_search.proofs.Common.{allowed_known, allowed_mask, append-nil, board_under, drop_all, known_more}
+use Rattle.drawing_search.proofs.Common.{port_at_node, port_in, read_at, round_within, Dir, SegId}
 use Rattle.drawing_search.proofs.sketch.Sketch.ports_for.Goals as goal
 
 pub loop-s-init : goal.loop-s-init

@@ -1,7 +1,6 @@
 use Rattle.std.proofs.Common.{◌≡◌, ◌++◌, [], drop, get_or}
-use Rattle.segment_router.specs.Routes.{port_at_node}
 use Rattle.segment_router.specs.Underway.{known_ports}
-use Rattle.run_laying.specs.Laying.{board_under}
+use Rattle.drawing_search.proofs.Common.{board_under, port_at_node}
 use Rattle.drawing_search.proofs.sketch.Sketch.ports_for.Given as goal
 
 -- the ports so far, and those of the segments that are left

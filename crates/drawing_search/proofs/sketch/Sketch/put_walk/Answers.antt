@@ -1,7 +1,6 @@
 use Rattle.std.proofs.Common.{length, ap, arith}
-use Rattle.octi_grid.specs.Walks.{points_of}
-use Rattle.run_laying.specs.Laying.{Sketch}
-use Rattle.drawing_search.proofs.OnSketches.{all_inside_kept, walked_shown, walked_view}
+use Rattle.drawing_search.proofs.Common.{points_of, Sketch}
+use Rattle.drawing_search.proofs.BoardsOf.{all_inside_kept, walked_shown, walked_view}
 use Rattle.drawing_search.proofs.sketch.Sketch.put_walk.Goals as goal
 
 pub add_walk-requires : goal.add_walk-requires

@@ -1,6 +1,6 @@
 use Rattle.std.proofs.Common.{length, ap, arith}
 use Rattle.run_laying.specs.Laying.{Sketch}
-use Rattle.drawing_search.proofs.OnSketches.{inside_kept, stood_shown, stood_view}
+use Rattle.drawing_search.proofs.BoardsOf.{inside_kept, stood_shown, stood_view}
 use Rattle.drawing_search.proofs.sketch.Sketch.stand.Goals as goal
 
 pub add_node-requires-clause-inside : goal.add_node-requires-clause-inside

@@ -1,9 +1,6 @@
 use Rattle.std.proofs.Common.{ℕ, ◌+◌, ◌<◌, List, pos, length, fold, get_or, drop, sym, ap, subst, ◌∙◌}
-use Rattle.std.proofs.lemmas.List.{at_drop_all, at_drop_more, drop_more}
-use Rattle.map_base.specs.declared.ids.NodeId.{NodeId}
-use Rattle.octi_grid.specs.declared.point.GridPoint.{GridPoint}
-use Rattle.run_laying.specs.Laying.{Sketch}
-use Rattle.drawing_search.specs.Changes.{stood_at, CanStand, CanStandEach}
+use Rattle.drawing_search.proofs.Common.{at_drop_all, at_drop_more, drop_more, stood_at, CanStand, CanStandEach}
+use Rattle.drawing_search.proofs.Common.{GridPoint, NodeId, Sketch}
 use Rattle.drawing_search.proofs.sketch.Sketch.stand_each.Goals as goal
 
 abbrev nobody : NodeId × GridPoint

@@ -1,11 +1,6 @@
 use Rattle.std.proofs.Common.{◌≡◌, ◌+◌, List, fold, get_or, drop, sym, ap, subst, ◌∙◌}
-use Rattle.std.proofs.lemmas.List.{at_drop_all, at_drop_more}
-use Rattle.line_chains.specs.declared.chain.ChainStep.{ChainStep}
-use Rattle.run_laying.specs.Attempts.{inner_nodes}
-use Rattle.run_laying.specs.Laying.{Sketch}
-use Rattle.run_laying.specs.Sketches.{lifted, IsLegalSketch}
-use Rattle.drawing_search.specs.Changes.{without_walks, AreLiftable}
-use Rattle.drawing_search.specs.Gains.{AreOnGraph}
+use Rattle.drawing_search.proofs.Common.{at_drop_all, at_drop_more, inner_nodes, lifted, without_walks, AreLiftable}
+use Rattle.drawing_search.proofs.Common.{AreOnGraph, ChainStep, IsLegalSketch, Sketch}
 use Rattle.drawing_search.proofs.RunReads.{run_on_graph}
 use Rattle.drawing_search.proofs.TakenOff.{off_legal}
 use Rattle.drawing_search.proofs.sketch.Sketch.take_run.Goals as goal

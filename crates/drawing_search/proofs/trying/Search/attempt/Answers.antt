@@ -1,6 +1,5 @@
 use Rattle.std.proofs.Common.{sym, ◌∙◌, ap, subst, ℕ, Option, ◌+◌, arith, Some, None}
-use Rattle.drawing_weights.specs.Scales.{scale_of}
-use Rattle.drawing_search.specs.Tries.{AreAllLaid}
+use Rattle.drawing_search.proofs.Common.{scale_of, AreAllLaid}
 use Rattle.drawing_search.proofs.AttemptReads.{can_weigh, read_can, read_failed, read_heavy, read_laying, read_liftable, read_made, read_no_room, read_there}
 use Rattle.drawing_search.proofs.trying.Search.attempt.Goals as goal
 

@@ -1,8 +1,5 @@
 use Rattle.std.proofs.Common.{◌∙◌, ap, ap₂, arith}
-use Rattle.map_base.specs.declared.ids.NodeId.{NodeId}
-use Rattle.octi_grid.specs.declared.point.GridPoint.{GridPoint}
-use Rattle.run_laying.specs.Sketches.{point_of_node}
-use Rattle.drawing_search.specs.Bounds.{least_between}
+use Rattle.drawing_search.proofs.Common.{least_between, point_of_node, GridPoint, NodeId}
 use Rattle.drawing_search.proofs.trying.Search.between_ends.Goals as goal
 
 pub point-to-requires : goal.point-to-requires

@@ -1,13 +1,25 @@
-use Rattle.std.proofs.Common.{◌≡◌, ℕ, ◌+◌, ◌<◌, ◌&&◌, Bool, true, false, List, pos, length, get_or, drop, sym, ap, subst, ◌∙◌, arith}
-use Rattle.std.proofs.lemmas.List.{at_drop_all, at_drop_more}
-use Rattle.map_base.specs.declared.ids.NodeId.{NodeId}
-use Rattle.octi_grid.specs.declared.point.GridPoint.{GridPoint}
-use Rattle.grid_board.specs.Points.{is_near}
-use Rattle.run_laying.specs.Laying.{Sketch}
-use Rattle.drawing_search.specs.declared.group.Vector.{Vector}
-use Rattle.drawing_search.specs.Changes.{has_room, is_open, moved_by}
-use Rattle.drawing_search.proofs.Farther.{moved_near}
+use Rattle.std.proofs.Common.{◌≡◌, ℕ, ◌+◌, ◌<◌, ◌&&◌, Bool, true, false, List, pos, length, get_or, drop, sym, ap, subst, ◌∙◌, arith, zero, suc, ◌≤◌, unsigned_abs, replicate}
+use Rattle.drawing_search.proofs.Common.{after, and_from, and_parts, at_drop_all, at_drop_more, east_of, east_small}
+use Rattle.drawing_search.proofs.Common.{has_room, is_near, is_open, le-leb, leb-true, moved_by, nat_le, north_of}
+use Rattle.drawing_search.proofs.Common.{north_small, reach, step_from, Dir, GridPoint, NodeId, Sketch, Vector}
 use Rattle.drawing_search.proofs.trying.Search.has_room.Goals as goal
+
+far_across : (most n : ℕ) (p : GridPoint) (d : Dir) → unsigned_abs p.x ≤ most → unsigned_abs (after p (replicate n d)).x ≤ most + n
+far_across most zero p d h = omega (arith, h)
+far_across most (suc n) p d h =
+    let rest = far_across (most + 1) n (step_from p d) d (reach p.x (east_of d) most 0 (omega (arith, h)) (east_small d)) in omega (arith, rest)
+
+far_along : (most n : ℕ) (p : GridPoint) (d : Dir) → unsigned_abs p.y ≤ most → unsigned_abs (after p (replicate n d)).y ≤ most + n
+far_along most zero p d h = omega (arith, h)
+far_along most (suc n) p d h =
+    let rest = far_along (most + 1) n (step_from p d) d (reach p.y (north_of d) most 0 (omega (arith, h)) (north_small d)) in omega (arith, rest)
+
+moved_near : (most more : ℕ) (v : Vector) (p : GridPoint) → is_near most p ≡ true → most + v.count ≤ more → is_near more (moved_by v p) ≡ true
+moved_near most more v p near few =
+    let parts = and_parts (nat_le (unsigned_abs p.x) most) (nat_le (unsigned_abs p.y) most) near in
+    let x = far_across most v.count p v.dir (leb-true (unsigned_abs p.x) most parts.0) in
+    let y = far_along most v.count p v.dir (leb-true (unsigned_abs p.y) most parts.1) in
+    and_from (nat_le (unsigned_abs (moved_by v p).x) more) (nat_le (unsigned_abs (moved_by v p).y) more) (le-leb (unsigned_abs (moved_by v p).x) more (omega (arith, x, few))) (le-leb (unsigned_abs (moved_by v p).y) more (omega (arith, y, few)))
 
 abbrev nobody : NodeId × GridPoint
 nobody = (record { 0 = 0 }, record { x = pos 0; y = pos 0 })

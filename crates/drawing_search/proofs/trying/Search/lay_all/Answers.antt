@@ -1,6 +1,5 @@
 use Rattle.std.proofs.Common.{◌∙◌, refl, subst, ℕ, ◌-◌, take, Option, arith}
-use Rattle.drawing_weights.specs.Scales.{scale_of}
-use Rattle.drawing_search.specs.Tries.{IsRunLaid}
+use Rattle.drawing_search.proofs.Common.{scale_of, IsRunLaid}
 use Rattle.drawing_search.proofs.Alikes.{legal_alike}
 use Rattle.drawing_search.proofs.LaidBack.{so_far_still}
 use Rattle.drawing_search.proofs.LayLoop.{ahead_enough, bound_next, free_next, laid_all, laid_given_up, laid_takable, lay_begins, lay_ends, lay_more, room_next, run_next}
@@ -16,55 +15,35 @@ loop-i-init c =
       made = refl;
     }
 
-pub between_ends-ahead-requires-clause-from : goal.between_ends-ahead-requires-clause-from
-between_ends-ahead-requires-clause-from c =
+pub between_ends-ahead-requires : goal.between_ends-ahead-requires
+between_ends-ahead-requires c =
     let f = c.args.field in
     let is = run_next f.graph.now c.requires.field.graph (scale_of f.by) f.first.now c.args.runs.now c.args.least.now c.args.self.now.sketch c.args.self.now.weight c.requires.runs c.requires.each c.loop-i.i c.loop-i.self.sketch c.loop-i.weight c.loop-i.ahead c.loop-i.invariant.laying c.loop-i-test.true c.index-runs-i.result c.index-runs-i.is in
-    omega (arith, run_from f.graph.now c.requires.field.graph c.index-runs-i.result is, c.loop-i.invariant.laying.ready.legal.points_each)
-
-pub between_ends-ahead-requires-clause-to : goal.between_ends-ahead-requires-clause-to
-between_ends-ahead-requires-clause-to c =
-    let f = c.args.field in
-    let is = run_next f.graph.now c.requires.field.graph (scale_of f.by) f.first.now c.args.runs.now c.args.least.now c.args.self.now.sketch c.args.self.now.weight c.requires.runs c.requires.each c.loop-i.i c.loop-i.self.sketch c.loop-i.weight c.loop-i.ahead c.loop-i.invariant.laying c.loop-i-test.true c.index-runs-i.result c.index-runs-i.is in
-    omega (arith, run_to f.graph.now c.requires.field.graph c.index-runs-i.result is, c.loop-i.invariant.laying.ready.legal.points_each)
-
-pub between_ends-ahead-requires-clause-small : goal.between_ends-ahead-requires-clause-small
-between_ends-ahead-requires-clause-small c = c.requires.small c.loop-i.i _ (omega (arith, c.loop-i-test.true, c.requires.each))
+    record {
+      from = omega (arith, run_from f.graph.now c.requires.field.graph c.index-runs-i.result is, c.loop-i.invariant.laying.ready.legal.points_each);
+      to = omega (arith, run_to f.graph.now c.requires.field.graph c.index-runs-i.result is, c.loop-i.invariant.laying.ready.legal.points_each);
+      small = c.requires.small c.loop-i.i _ (omega (arith, c.loop-i-test.true, c.requires.each));
+    }
 
 pub overflow_sub-ahead : goal.overflow_sub-ahead
 overflow_sub-ahead c =
     let f = c.args.field in
     ahead_enough f.graph.now c.requires.field.graph (scale_of f.by) f.first.now c.args.runs.now c.args.least.now c.args.self.now.sketch c.args.self.now.weight c.requires.runs c.requires.each c.loop-i.i c.loop-i.self.sketch c.loop-i.weight c.loop-i.ahead c.loop-i.invariant.laying c.loop-i-test.true c.index-runs-i.result c.index-runs-i.is _ c.between_ends-ahead.result c.between_ends-ahead.ensures
 
-pub lay_run-requires-clause-legal : goal.lay_run-requires-clause-legal
-lay_run-requires-clause-legal c = c.loop-i.invariant.laying.ready.legal
-
-pub lay_run-requires-clause-run : goal.lay_run-requires-clause-run
-lay_run-requires-clause-run c =
-    let f = c.args.field in
-    run_next f.graph.now c.requires.field.graph (scale_of f.by) f.first.now c.args.runs.now c.args.least.now c.args.self.now.sketch c.args.self.now.weight c.requires.runs c.requires.each c.loop-i.i c.loop-i.self.sketch c.loop-i.weight c.loop-i.ahead c.loop-i.invariant.laying c.loop-i-test.true c.index-runs-i.result c.index-runs-i.is
-
-pub lay_run-requires-clause-free : goal.lay_run-requires-clause-free
-lay_run-requires-clause-free c =
-    let f = c.args.field in
-    free_next f.graph.now c.requires.field.graph (scale_of f.by) f.first.now c.args.runs.now c.args.least.now c.args.self.now.sketch c.args.self.now.weight c.requires.runs c.requires.each c.loop-i.i c.loop-i.self.sketch c.loop-i.weight c.loop-i.ahead c.loop-i.invariant.laying c.loop-i-test.true c.index-runs-i.result c.index-runs-i.is
-
-pub lay_run-requires-clause-bound : goal.lay_run-requires-clause-bound
-lay_run-requires-clause-bound c =
-    let f = c.args.field in
-    bound_next f.graph.now c.requires.field.graph (scale_of f.by) f.first.now c.args.runs.now c.args.least.now c.args.self.now.sketch c.args.self.now.weight c.requires.runs c.requires.each c.loop-i.i c.loop-i.self.sketch c.loop-i.weight c.loop-i.ahead c.loop-i.invariant.laying c.loop-i-test.true c.index-runs-i.result c.index-runs-i.is _
-
-pub lay_run-requires-clause-small : goal.lay_run-requires-clause-small
-lay_run-requires-clause-small c = c.requires.small c.loop-i.i _ (omega (arith, c.loop-i-test.true, c.requires.each))
-
-pub lay_run-requires-clause-room : goal.lay_run-requires-clause-room
-lay_run-requires-clause-room c =
+pub lay_run-requires : goal.lay_run-requires
+lay_run-requires c =
     let f = c.args.field in
     let room = room_next f.graph.now c.requires.field.graph (scale_of f.by) f.first.now c.args.runs.now c.args.least.now c.args.self.now.sketch c.args.self.now.weight c.requires.runs c.requires.each c.loop-i.i c.loop-i.self.sketch c.loop-i.weight c.loop-i.ahead c.loop-i.invariant.laying c.loop-i-test.true c.index-runs-i.result c.index-runs-i.is _ c.between_ends-ahead.result c.between_ends-ahead.ensures in
-    omega (arith, room, c.loop-i.invariant.kept)
-
-pub lay_run-requires-clause-limit : goal.lay_run-requires-clause-limit
-lay_run-requires-clause-limit c = omega (arith, c.requires.weight, c.loop-i.invariant.kept)
+    record {
+      field = c.requires.field;
+      legal = c.loop-i.invariant.laying.ready.legal;
+      run = run_next f.graph.now c.requires.field.graph (scale_of f.by) f.first.now c.args.runs.now c.args.least.now c.args.self.now.sketch c.args.self.now.weight c.requires.runs c.requires.each c.loop-i.i c.loop-i.self.sketch c.loop-i.weight c.loop-i.ahead c.loop-i.invariant.laying c.loop-i-test.true c.index-runs-i.result c.index-runs-i.is;
+      free = free_next f.graph.now c.requires.field.graph (scale_of f.by) f.first.now c.args.runs.now c.args.least.now c.args.self.now.sketch c.args.self.now.weight c.requires.runs c.requires.each c.loop-i.i c.loop-i.self.sketch c.loop-i.weight c.loop-i.ahead c.loop-i.invariant.laying c.loop-i-test.true c.index-runs-i.result c.index-runs-i.is;
+      bound = bound_next f.graph.now c.requires.field.graph (scale_of f.by) f.first.now c.args.runs.now c.args.least.now c.args.self.now.sketch c.args.self.now.weight c.requires.runs c.requires.each c.loop-i.i c.loop-i.self.sketch c.loop-i.weight c.loop-i.ahead c.loop-i.invariant.laying c.loop-i-test.true c.index-runs-i.result c.index-runs-i.is _;
+      small = c.requires.small c.loop-i.i _ (omega (arith, c.loop-i-test.true, c.requires.each));
+      room = omega (arith, room, c.loop-i.invariant.kept);
+      limit = omega (arith, c.requires.weight, c.loop-i.invariant.kept);
+    }
 
 -- the run is not left on the board
 pub take_all-requires-clause-takable : goal.take_all-requires-clause-takable
@@ -75,21 +54,20 @@ take_all-requires-clause-takable c =
     laid_takable f.graph.now c.requires.field.graph (scale_of f.by) f.first.now c.args.runs.now c.args.least.now c.args.self.now.sketch c.args.self.now.weight c.requires.runs c.requires.each c.loop-i.i c.lay_run.new.self.sketch (legal_alike f.graph.now c.lay_run.new.self.sketch k same c.loop-i.invariant.laying.ready.legal)
     (so_far_still (take c.loop-i.i c.args.runs.now) c.args.self.now.sketch k c.lay_run.new.self.sketch same c.loop-i.invariant.laying.so_far)
 
-pub returns-in_default-clause-laid : goal.returns-in_default-clause-laid
-returns-in_default-clause-laid c =
+pub returns-in_default : goal.returns-in_default
+returns-in_default c =
     let f = c.args.field in
     let k = c.loop-i.self.sketch in
     let none = subst (λ (o : Option ℕ). IsRunLaid (scale_of f.by) f.graph.now f.first.now c.loop-i.self.weight c.loop-i.weight (c.loop-i.ahead - c.between_ends-ahead.result) c.index-runs-i.result k c.lay_run.new.self.sketch o) c.in_default.is c.in_ok-more.ensures.laid in
-    laid_given_up f.graph.now c.requires.field.graph (scale_of f.by) f.first.now c.args.runs.now c.args.least.now c.args.self.now.sketch c.args.self.now.weight c.requires.runs c.requires.each c.loop-i.i c.lay_run.new.self.sketch (legal_alike f.graph.now c.lay_run.new.self.sketch k none.0 c.loop-i.invariant.laying.ready.legal)
-    (so_far_still (take c.loop-i.i c.args.runs.now) c.args.self.now.sketch k c.lay_run.new.self.sketch none.0 c.loop-i.invariant.laying.so_far)
-    c.take_all.new.self.sketch c.take_all.ensures.sketch
-    (lay_ends f.graph.now c.requires.field.graph (scale_of f.by) f.first.now c.args.runs.now c.args.least.now c.args.self.now.sketch c.args.self.now.weight c.requires.runs c.requires.each c.loop-i.i c.loop-i.self.sketch c.loop-i.weight c.loop-i.ahead c.loop-i.invariant.laying c.loop-i-test.true c.index-runs-i.result c.index-runs-i.is _ c.between_ends-ahead.result c.between_ends-ahead.ensures (λ mid e. omega (arith, none.1 mid e, c.loop-i.invariant.kept)))
-
-pub returns-in_default-clause-weight : goal.returns-in_default-clause-weight
-returns-in_default-clause-weight c = c.take_all.ensures.weight ∙ c.in_ok-more.ensures.weight ∙ c.loop-i.invariant.kept
-
-pub returns-in_default-clause-made : goal.returns-in_default-clause-made
-returns-in_default-clause-made c = c.take_all.ensures.made ∙ c.in_ok-more.ensures.made ∙ c.loop-i.invariant.made
+    record {
+      laid =
+          laid_given_up f.graph.now c.requires.field.graph (scale_of f.by) f.first.now c.args.runs.now c.args.least.now c.args.self.now.sketch c.args.self.now.weight c.requires.runs c.requires.each c.loop-i.i c.lay_run.new.self.sketch (legal_alike f.graph.now c.lay_run.new.self.sketch k none.0 c.loop-i.invariant.laying.ready.legal)
+          (so_far_still (take c.loop-i.i c.args.runs.now) c.args.self.now.sketch k c.lay_run.new.self.sketch none.0 c.loop-i.invariant.laying.so_far)
+          c.take_all.new.self.sketch c.take_all.ensures.sketch
+          (lay_ends f.graph.now c.requires.field.graph (scale_of f.by) f.first.now c.args.runs.now c.args.least.now c.args.self.now.sketch c.args.self.now.weight c.requires.runs c.requires.each c.loop-i.i c.loop-i.self.sketch c.loop-i.weight c.loop-i.ahead c.loop-i.invariant.laying c.loop-i-test.true c.index-runs-i.result c.index-runs-i.is _ c.between_ends-ahead.result c.between_ends-ahead.ensures (λ mid e. omega (arith, none.1 mid e, c.loop-i.invariant.kept)));
+      weight = c.take_all.ensures.weight ∙ c.in_ok-more.ensures.weight ∙ c.loop-i.invariant.kept;
+      made = c.take_all.ensures.made ∙ c.in_ok-more.ensures.made ∙ c.loop-i.invariant.made;
+    }
 
 pub loop-i-preserved : goal.loop-i-preserved
 loop-i-preserved c =
@@ -102,13 +80,11 @@ loop-i-preserved c =
       made = c.in_ok-more.ensures.made ∙ c.loop-i.invariant.made;
     }
 
-pub returns-clause-laid : goal.returns-clause-laid
-returns-clause-laid c =
+pub returns : goal.returns
+returns c =
     let f = c.args.field in
-    laid_all f.graph.now c.requires.field.graph (scale_of f.by) f.first.now c.args.runs.now c.args.least.now c.args.self.now.sketch c.args.self.now.weight c.requires.runs c.requires.each c.loop-i.i c.loop-i.self.sketch c.loop-i.weight c.loop-i.ahead c.loop-i.invariant.laying c.loop-i-test.false
-
-pub returns-clause-weight : goal.returns-clause-weight
-returns-clause-weight c = c.loop-i.invariant.kept
-
-pub returns-clause-made : goal.returns-clause-made
-returns-clause-made c = c.loop-i.invariant.made
+    record {
+      laid = laid_all f.graph.now c.requires.field.graph (scale_of f.by) f.first.now c.args.runs.now c.args.least.now c.args.self.now.sketch c.args.self.now.weight c.requires.runs c.requires.each c.loop-i.i c.loop-i.self.sketch c.loop-i.weight c.loop-i.ahead c.loop-i.invariant.laying c.loop-i-test.false;
+      weight = c.loop-i.invariant.kept;
+      made = c.loop-i.invariant.made;
+    }

@@ -1,17 +1,9 @@
 use Rattle.std.proofs.Common.{◌≡◌, ◌∙◌, sym, ap, ap₂, subst, ◌+◌, ◌-◌, Bool, Some, arith}
-use Rattle.map_base.specs.declared.ids.NodeId.{NodeId}
-use Rattle.octi_grid.specs.declared.point.GridPoint.{GridPoint}
-use Rattle.std.specs.Prelude.{slice_index}
-use Rattle.drawing_weights.specs.Scales.{scale_of}
-use Rattle.run_laying.specs.Laying.{laid, Sketch}
-use Rattle.run_laying.specs.Sketches.{point_of_node}
-use Rattle.drawing_search.specs.Alike.{AreAlike}
-use Rattle.drawing_search.specs.Bounds.{limit_between}
-use Rattle.drawing_search.specs.Least.{straight_way}
-use Rattle.drawing_search.specs.Trying.{laid_within, IsLaid}
+use Rattle.drawing_search.proofs.Common.{laid, laid_within, limit_between, point_of_node, scale_of, slice_index}
+use Rattle.drawing_search.proofs.Common.{straight_way, AreAlike, GridPoint, IsLaid, NodeId, Sketch}
 use Rattle.drawing_search.proofs.Alikes.{alike_self}
 use Rattle.drawing_search.proofs.LayingAll.{laid_from_within}
-use Rattle.drawing_search.proofs.RunLaid.{one_back, one_fails, one_heavy, one_inner, one_legal, one_takable}
+use Rattle.drawing_search.proofs.LaidBack.{one_back, one_fails, one_heavy, one_inner, one_legal, one_takable}
 use Rattle.drawing_search.proofs.RunReads.{run_from, run_to}
 use Rattle.drawing_search.proofs.trying.Search.lay_run.Goals as goal
 

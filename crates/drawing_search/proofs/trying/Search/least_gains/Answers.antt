@@ -1,10 +1,6 @@
 use Rattle.std.proofs.Common.{◌∙◌, sym, ap, subst, ◌<◌, List, length, drop, min, arith}
-use Rattle.std.proofs.lemmas.List.{drop_all}
-use Rattle.map_base.specs.declared.ids.NodeId.{NodeId}
-use Rattle.line_chains.specs.declared.chain.Chain.{Chain}
-use Rattle.line_chains.specs.Chains.{end_of}
-use Rattle.drawing_search.specs.Bounds.{gains_at_least}
 use Rattle.drawing_search.specs.Changes.{point_after}
+use Rattle.drawing_search.proofs.Common.{drop_all, end_of, gains_at_least, Chain, NodeId}
 use Rattle.drawing_search.proofs.LayLoop.{gains_step}
 use Rattle.drawing_search.proofs.trying.Search.least_gains.Goals as goal
 

@@ -1,11 +1,6 @@
 use Rattle.std.proofs.Common.{ℕ, ◌+◌, ◌<◌, List, pos, length, fold, map, get_or, drop, sym, ap, subst, ◌∙◌}
-use Rattle.std.proofs.lemmas.List.{at_drop_all, at_drop_more, drop_more}
-use Rattle.map_base.specs.declared.ids.NodeId.{NodeId}
-use Rattle.graph_core.specs.declared.parts.GraphParts.{GraphParts}
-use Rattle.octi_grid.specs.declared.point.GridPoint.{GridPoint}
-use Rattle.run_laying.specs.Laying.{Sketch}
-use Rattle.run_laying.specs.Sketches.{lifted}
-use Rattle.drawing_search.specs.Changes.{AreLiftable, IsLiftable}
+use Rattle.drawing_search.proofs.Common.{at_drop_all, at_drop_more, drop_more, lifted, AreLiftable, GraphParts}
+use Rattle.drawing_search.proofs.Common.{GridPoint, IsLiftable, NodeId, Sketch}
 use Rattle.drawing_search.proofs.trying.Search.lift_moved.Goals as goal
 
 abbrev nobody : NodeId × GridPoint

@@ -1,8 +1,5 @@
 use Rattle.std.proofs.Common.{◌≡◌, drop, fold, map}
-use Rattle.map_base.specs.declared.ids.NodeId.{NodeId}
-use Rattle.octi_grid.specs.declared.point.GridPoint.{GridPoint}
-use Rattle.run_laying.specs.Sketches.{lifted}
-use Rattle.drawing_search.specs.Changes.{AreLiftable}
+use Rattle.drawing_search.proofs.Common.{lifted, AreLiftable, GridPoint, NodeId}
 use Rattle.drawing_search.proofs.trying.Search.lift_moved.Given as goal
 
 -- the nodes that are left are taken off what there is

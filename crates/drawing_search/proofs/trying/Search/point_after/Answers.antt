@@ -1,11 +1,7 @@
 use Rattle.std.proofs.Common.{◌≡◌, ℕ, ◌+◌, ◌<◌, Bool, true, false, cond, eqb, List, pos, length, get_or, drop, sym, ap, ◌∙◌}
-use Rattle.std.proofs.lemmas.Bool.{eq-eqb, ne_eqb}
-use Rattle.std.proofs.lemmas.List.{at_drop_all, at_drop_more}
-use Rattle.map_base.specs.declared.ids.NodeId.{NodeId}
-use Rattle.octi_grid.specs.declared.point.GridPoint.{GridPoint}
-use Rattle.run_laying.specs.Laying.{Sketch}
-use Rattle.drawing_search.specs.declared.group.Vector.{Vector}
-use Rattle.drawing_search.specs.Changes.{moved_by, point_after}
+use Rattle.drawing_search.specs.Changes.{point_after}
+use Rattle.drawing_search.proofs.Common.{at_drop_all, at_drop_more, eq-eqb, moved_by, ne_eqb, GridPoint, NodeId, Sketch}
+use Rattle.drawing_search.proofs.Common.{Vector}
 use Rattle.drawing_search.proofs.trying.Search.point_after.Goals as goal
 
 abbrev nobody : NodeId × GridPoint

@@ -1,11 +1,6 @@
 use Rattle.std.proofs.Common.{◌≡◌, ℕ, ◌+◌, ◌<◌, List, pos, length, fold, get_or, drop, sym, ap, subst, ◌∙◌}
-use Rattle.std.proofs.lemmas.List.{at_drop_all, at_drop_more, drop_more}
-use Rattle.map_base.specs.declared.ids.NodeId.{NodeId}
-use Rattle.octi_grid.specs.declared.point.GridPoint.{GridPoint}
-use Rattle.run_laying.specs.Laying.{Sketch}
-use Rattle.run_laying.specs.Sketches.{stood}
-use Rattle.drawing_search.specs.declared.group.Vector.{Vector}
-use Rattle.drawing_search.specs.Changes.{all_moved, moved_by, stood_at, CanStand, CanStandEach}
+use Rattle.drawing_search.proofs.Common.{all_moved, at_drop_all, at_drop_more, drop_more, moved_by, stood, stood_at}
+use Rattle.drawing_search.proofs.Common.{CanStand, CanStandEach, GridPoint, NodeId, Sketch, Vector}
 use Rattle.drawing_search.proofs.trying.Search.stand_moved.Goals as goal
 
 abbrev nobody : NodeId × GridPoint

@@ -1,9 +1,6 @@
 use Rattle.std.proofs.Common.{◌≡◌, ℕ, ◌+◌, ◌<◌, List, length, fold, get_or, drop, sym, ap, subst, ◌∙◌}
-use Rattle.std.proofs.lemmas.List.{at_drop_all, at_drop_more, drop_more}
-use Rattle.graph_core.specs.declared.parts.GraphParts.{GraphParts}
-use Rattle.line_chains.specs.declared.chain.Chain.{Chain}
-use Rattle.run_laying.specs.Laying.{Sketch}
-use Rattle.drawing_search.specs.Changes.{without_run, AreTakable, IsTakable}
+use Rattle.drawing_search.proofs.Common.{at_drop_all, at_drop_more, drop_more, without_run, AreTakable, Chain}
+use Rattle.drawing_search.proofs.Common.{GraphParts, IsTakable, Sketch}
 use Rattle.drawing_search.proofs.trying.Search.take_all.Goals as goal
 
 -- the next run may be taken off, and then the others

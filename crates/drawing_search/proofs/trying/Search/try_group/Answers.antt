@@ -1,10 +1,5 @@
 use Rattle.std.proofs.Common.{◌≡◌, refl, sym, ◌∙◌, ap, subst, ℕ, zero, suc, ◌+◌, ◌*◌, ◌/◌, ◌<◌, ◌≤◌, cond, eqb, arith}
-use Rattle.std.proofs.lemmas.Bool.{ne_eqb}
-use Rattle.drawing_weights.specs.Scales.{scale_of}
-use Rattle.run_laying.specs.Laying.{Sketch}
-use Rattle.run_laying.specs.Runs.{IsFitting}
-use Rattle.drawing_search.specs.Lifting.{attempt_by}
-use Rattle.drawing_search.specs.Tries.{IsSettled, Tried}
+use Rattle.drawing_search.proofs.Common.{attempt_by, ne_eqb, scale_of, IsFitting, IsSettled, Sketch, Tried}
 use Rattle.drawing_search.proofs.Alikes.{alike_self}
 use Rattle.drawing_search.proofs.TriedGroups.{all_tried, attempt_at, attempts_many, one_more}
 use Rattle.drawing_search.proofs.trying.Search.try_group.Goals as goal
@@ -65,19 +60,17 @@ loop-i-preserved c =
 pub put_back-requires : goal.put_back-requires
 put_back-requires c = c.loop-i.invariant.lifted.can c.loop-i.self.sketch (alike_self c.loop-i.self.sketch)
 
-pub returns-clause-settled : goal.returns-clause-settled
-returns-clause-settled c =
+pub returns : goal.returns
+returns c =
     let f = c.args.field in
     let t = c.loop-i.invariant in
     let k = c.loop-i.self.sketch in
-    subst (λ (j : Sketch). IsSettled (scale_of f.by) f.graph.now f.first.now j c.loop-i.self.weight) (sym (c.put_back.ensures ∙ t.lifted.back k (alike_self k))) t.settled
-
-pub returns-clause-tried : goal.returns-clause-tried
-returns-clause-tried c =
-    let f = c.args.field in
     let g = c.args.group.now in
-    let t = c.loop-i.invariant in
     let s = c.loop-i.self in
-    ap (λ (j : Sketch). (let x : Tried = record { sketch = j; made = s.made } in x)) (c.put_back.ensures ∙ t.lifted.back s.sketch (alike_self s.sketch))
-    ∙ all_tried (scale_of f.by) f.graph.now f.first.now g c.args.most (record { sketch = c.args.self.now.sketch; made = c.args.self.now.made }) c.loop-i.i s.sketch s.weight s.made c.loop-i.lifted t
-    (omega (arith, attempts_many g, c.loop-i-test.false, c.vectors_of-i-end.ensures))
+    record {
+      settled = subst (λ (j : Sketch). IsSettled (scale_of f.by) f.graph.now f.first.now j c.loop-i.self.weight) (sym (c.put_back.ensures ∙ t.lifted.back k (alike_self k))) t.settled;
+      tried =
+          ap (λ (j : Sketch). (let x : Tried = record { sketch = j; made = s.made } in x)) (c.put_back.ensures ∙ t.lifted.back s.sketch (alike_self s.sketch))
+          ∙ all_tried (scale_of f.by) f.graph.now f.first.now g c.args.most (record { sketch = c.args.self.now.sketch; made = c.args.self.now.made }) c.loop-i.i s.sketch s.weight s.made c.loop-i.lifted t
+          (omega (arith, attempts_many g, c.loop-i-test.false, c.vectors_of-i-end.ensures));
+    }

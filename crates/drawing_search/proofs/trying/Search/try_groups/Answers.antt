@@ -1,14 +1,6 @@
 use Rattle.std.proofs.Common.{◌≡◌, refl, ℕ, ◌+◌, ◌<◌, ◌≤◌, List, length, get_or, drop, sym, ap, subst, ◌∙◌, arith}
-use Rattle.std.specs.Prelude.{All}
-use Rattle.octi_grid.proofs.Members.{in_flat_map}
-use Rattle.segment_router.proofs.Places.{all_in, in_at}
-use Rattle.run_laying.specs.Attempts.{Attempt}
-use Rattle.run_laying.specs.Runs.{IsFitting}
-use Rattle.drawing_weights.specs.Scales.{scale_of}
-use Rattle.drawing_search.specs.declared.group.Group.{Group}
-use Rattle.drawing_search.specs.Changes.{AreApart}
-use Rattle.drawing_search.specs.Searched.{attempts_in, attempts_of}
-use Rattle.drawing_search.specs.Tries.{after_tries, Tried}
+use Rattle.drawing_search.proofs.Common.{after_tries, all_in, attempts_in, attempts_of, in_at, in_flat_map, scale_of}
+use Rattle.drawing_search.proofs.Common.{All, AreApart, Attempt, Group, IsFitting, Tried}
 use Rattle.drawing_search.proofs.Searches.{pass_over, tries_more}
 use Rattle.drawing_search.proofs.TriedGroups.{tries_after}
 use Rattle.drawing_search.proofs.trying.Search.try_groups.Goals as goal

@@ -1,8 +1,6 @@
 use Rattle.std.proofs.Common.{◌<◌, subst, ℕ, Option, arith}
 use Rattle.std.proofs.lemmas.Result.{IfOk-weaker}
-use Rattle.drawing_weights.specs.Scales.{scale_of}
-use Rattle.drawing_search.specs.declared.lifting.Lifted.{Lifted}
-use Rattle.drawing_search.specs.Lifting.{CameOf, IsLifted}
+use Rattle.drawing_search.proofs.Common.{scale_of, CameOf, IsLifted, Lifted}
 use Rattle.drawing_search.proofs.TriedGroups.{tried_full, tried_none, tried_some}
 use Rattle.drawing_search.proofs.trying.Search.try_vector.Goals as goal
 

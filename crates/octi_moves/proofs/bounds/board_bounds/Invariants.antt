@@ -1,8 +1,0 @@
-use Rattle.std.proofs.Common.{◌≡◌, take}
-use Rattle.std.specs.List.{flat_map}
-use Rattle.octi_grid.specs.Walks.{points_of}
-use Rattle.octi_moves.proofs.bounds.board_bounds.Given as goal
-
--- the grid points of the first walks
-abbrev pub invariant-loop-walk : goal.invariant-loop-walk
-invariant-loop-walk l = l.points.items ≡ flat_map points_of (take l.walk-index l.first)

@@ -1,8 +1,0 @@
-use Rattle.std.proofs.Common.{◌≡◌, None, drop, fold}
-use Rattle.octi_moves.specs.Moves.{bounds_with}
-use Rattle.octi_moves.proofs.FieldFacts.{SpanOf}
-use Rattle.octi_moves.proofs.bounds.bounds_of.Given as goal
-
--- the bounds so far, of points near the origin, and the points that are left
-abbrev pub invariant-loop-p : goal.invariant-loop-p
-invariant-loop-p l = (fold bounds_with l.bounds (drop l.p-index l.points) ≡ fold bounds_with None l.points) × SpanOf 1900 l.bounds
