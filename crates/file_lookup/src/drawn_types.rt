@@ -3,7 +3,7 @@
 use crate::paths::is_plain;
 use crate::table_ids::ids_at;
 use command_inputs::{Inputs, settings_for};
-use disk_door::DiskFiles;
+use disk_files::DiskFiles;
 use gtfs_fields::whole;
 use map_base::NoMemory;
 use map_method::MapSettings;
