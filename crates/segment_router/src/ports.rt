@@ -141,7 +141,13 @@ fn closes(tour: Tour, count: usize) -> bool
     let gap = distance_to(tour.last.port, tour.first.port);
     let room = gap as usize;
     let back = count - tour.last.place;
-    back <= room && tour.first.place <= room - back && tour.turned + gap == 8
+    if back > room {
+        return false;
+    }
+    if tour.first.place > room - back {
+        return false;
+    }
+    tour.turned + gap == 8
 }
 
 /// How far clockwise the next of two ports is, in parts of 45 degrees: 8 from a port to itself.
