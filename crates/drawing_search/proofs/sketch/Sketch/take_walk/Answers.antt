@@ -10,6 +10,12 @@ use Rattle.drawing_search.proofs.sketch.Sketch.take_walk.Goals as goal
 abbrev no_ends : NodeId × NodeId
 no_ends = (record { 0 = 0 }, record { 0 = 0 })
 
+-- other walks keep the ends
+kept_by : (g : GraphParts) (j : Sketch) (s : SegId) (n m : NodeId) (ws : List (Option PlainWalk)) (kept : Bool) → kept ≡ list_any (λ (t : SegId). is_some (get_or ws t.0 None)) (round_of g m) → ws ≡ set j.walks s.0 None → n ≡ m
+    → kept ≡ has_walk_at g (with_walk_of j s None) n
+kept_by g j s n m ws kept is left same =
+    is ∙ ap (λ (os : List (Option PlainWalk)). list_any (λ (t : SegId). is_some (get_or os t.0 None)) (round_of g m)) left ∙ ap (has_walk_at g (with_walk_of j s None)) (sym same)
+
 pub take_at-requires : goal.take_at-requires
 take_at-requires c =
     let there = ap (λ (j : Sketch). length j.walks) c.self.view_is in
@@ -78,12 +84,6 @@ remove_walk-requires c =
           subst IsBoard (sym (ap₂ (λ (x y : Bool). without_walk (parts_of s.board) w x y) low up))
           (freed_board s.board s.points.items s.stand.items s.walks.items k c.self.invariant c.self.view_is g c.requires.graph c.requires.legal c.args.s w has c.requires.segment);
     }
-
--- other walks keep the ends
-kept_by : (g : GraphParts) (j : Sketch) (s : SegId) (n m : NodeId) (ws : List (Option PlainWalk)) (kept : Bool) → kept ≡ list_any (λ (t : SegId). is_some (get_or ws t.0 None)) (round_of g m) → ws ≡ set j.walks s.0 None → n ≡ m
-    → kept ≡ has_walk_at g (with_walk_of j s None) n
-kept_by g j s n m ws kept is left same =
-    is ∙ ap (λ (os : List (Option PlainWalk)). list_any (λ (t : SegId). is_some (get_or os t.0 None)) (round_of g m)) left ∙ ap (has_walk_at g (with_walk_of j s None)) (sym same)
 
 pub invariant_of-self-2 : goal.invariant_of-self-2
 invariant_of-self-2 c =
