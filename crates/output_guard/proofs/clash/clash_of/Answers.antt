@@ -13,7 +13,7 @@ returns-in_ok-read-in-File-clause-among g c =
     let file = c.in-File.output.now in
     of_found c.clash_among.result (λ (clash : Clash). clash.output ≡ file) (λ (clash : Clash). Contains c.deref.result.now clash.other) (IsAmong outputs read)
     (λ clash is other.
-      is_among outputs outputs c.deref.result.now read clash (ap (λ (paths : List (List ℕ)). paths ++ outputs) (c.deref.ensures.value ∙ c.in_ok-read-in-File.ensures))
-      (subst (λ (paths : List (List ℕ)). Contains paths clash.output) c.in-File.ensures
-      (subst (λ (path : List ℕ). Contains (file ∷ []) path) (sym is) (Contains-get_or (file ∷ []) 0 [] (omega arith)))) other)
+    is_among outputs outputs c.deref.result.now read clash (ap (λ (paths : List (List ℕ)). paths ++ outputs) (c.deref.ensures.value ∙ c.in_ok-read-in-File.ensures))
+    (subst (λ (paths : List (List ℕ)). Contains paths clash.output) c.in-File.ensures
+    (subst (λ (path : List ℕ). Contains (file ∷ []) path) (sym is) (Contains-get_or (file ∷ []) 0 [] (omega arith)))) other)
     c.clash_among.ensures.output c.clash_among.ensures.other
