@@ -1,6 +1,5 @@
 -- Counting the splits of trees.
-use Rattle.std.proofs.Common.{◌≡◌, ℕ, suc, ◌+◌, ◌<◌, ◌≤◌, List, [], ◌∷◌, drop, get_or, length, refl, sym, ap, ◌∙◌, arith}
-use Rattle.std.proofs.lemmas.List.{at_drop_more}
+use Rattle.std.proofs.Common.{◌≡◌, ℕ, suc, ◌+◌, List, [], ◌∷◌, refl, sym, ap, ◌∙◌, arith}
 use Rattle.map_base.specs.declared.ids.SegId.{SegId}
 use Rattle.map_base.specs.declared.ids.LineId.{LineId}
 use Rattle.order_proof.specs.Plain.{PlainTree, Cases, split, plain, plain_children}
@@ -23,10 +22,3 @@ splits_next count now child rest is =
     let below = splits_of_cases (plain_children rest) in
     let step : (count + splits_of (plain child.1)) + below ≡ count + (splits_of (plain child.1) + below) = omega (arith) in
     ap (λ (n : ℕ). n + below) is ∙ step
-
--- where the splits of one case are too many, so are those of the whole
-pub splits_beyond : (most count whole : ℕ) (children : List (LineId × Tree)) (i : ℕ) (child : LineId × Tree) → i < length children → child ≡ get_or children i child
-    → count + splits_of_cases (plain_children (drop i children)) ≡ whole → most ≤ count + splits_of (plain child.1) → most ≤ whole
-splits_beyond most count whole children i child low is all beyond =
-    let below : List (LineId × Tree) → ℕ = λ cs. splits_of_cases (plain_children cs) in
-    omega (arith, all, beyond, at_drop_more below children i child low, ap (λ (c : LineId × Tree). splits_of (plain c.1)) is)
