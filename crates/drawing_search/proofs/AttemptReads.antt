@@ -120,7 +120,6 @@ module _ (graph : GraphParts) (fit : IsConsistent graph) (scale : Scale) (first 
       pub read_laying : (mid : Sketch) → mid ≡ fold stood_at old (all_moved v ms) → min 18446744073709551615 (base + ahead) < weight → CanLay scale graph first mid cs ls base ahead weight
       read_laying mid mid_is less =
           let few = off.settled.small in
-          let there = ahead_there in
           subst (λ (j : Sketch). CanLay scale graph first j cs ls base ahead weight) (sym (mid_there mid mid_is))
           (subst (λ (rs : List Chain). CanLay scale graph first (fold stood_at old (all_moved v l.moved.items)) rs ls base ahead weight) (sym runs_is)
           (subst (λ (bs : List LeastTurns). CanLay scale graph first (fold stood_at old (all_moved v l.moved.items)) g.runs bs base ahead weight) (sym least_is)
@@ -128,6 +127,6 @@ module _ (graph : GraphParts) (fit : IsConsistent graph) (scale : Scale) (first 
             layable = layable_moved graph fit scale first g v off.whole old weight l off.apart off.settled off.fitting off.lifted room_is;
             weight = base_there;
             bounds = (ready_moved graph fit scale first g v off.whole old weight l off.apart off.settled off.fitting off.lifted room_is).have;
-            ahead = omega (arith, less, few, there);
+            ahead = omega (arith, less, few, ahead_there);
             less = omega (arith, less, few);
           })))

@@ -14,7 +14,7 @@ use Rattle.drawing_search.proofs.Lifts.{inner_from, inner_true, on_from, on_true
 use Rattle.drawing_search.proofs.PutBack.{same_list}
 use Rattle.drawing_search.proofs.TakenBack.{low_on_runs, none_on_runs, runs_beside, runs_points, takable_each, IsInnerOf, IsOnOf, IsSameBeside}
 use Rattle.drawing_search.proofs.LayingAll.{within_laid}
-use Rattle.drawing_search.proofs.LaySteps.{clear_of}
+use Rattle.drawing_search.proofs.Laid.{clear_of}
 
 -- these runs were laid on a drawing, one after another
 pub record IsSoFar (cs : List Chain) (old k : Sketch) : Type 0 where

@@ -9,7 +9,7 @@ use Rattle.drawing_search.proofs.Common.{HaveBounds, In, IsBoundOf, IsClearFor, 
 use Rattle.drawing_search.proofs.Common.{IsRun, LeastTurns, NodeId, Scale, Sketch}
 use Rattle.drawing_search.proofs.LaidBack.{none_so_far, one_more_so_far, so_far_alike, so_far_takable, IsSoFar}
 use Rattle.drawing_search.proofs.LayingAll.{least_of, next_gained, next_ready, no_room, same_least, IsReady}
-use Rattle.drawing_search.proofs.LaySteps.{clear_of}
+use Rattle.drawing_search.proofs.Laid.{clear_of}
 use Rattle.drawing_search.proofs.Takable.{in_taken}
 
 -- what runs add at least, one after another, as far as that is no more than a number

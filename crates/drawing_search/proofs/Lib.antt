@@ -9,7 +9,6 @@ mod RunEnds
 pub mod RunReads
 pub mod FewSteps
 mod Laid
-mod LaySteps
 mod RunSteps
 -- runs and nodes that are taken off and put back; drawings that differ where nodes lie that don't stand
 pub mod Takable
@@ -42,4 +41,3 @@ mod AttemptReads
 mod TriedGroups
 mod Searches
 mod Beginning
-mod Built

@@ -7,8 +7,7 @@ use Rattle.drawing_search.proofs.Common.{pieces_of, point_at, points_of, range_w
 use Rattle.drawing_search.proofs.Common.{with_pieces, Bounds, Chain, ChainStep, Dir, GraphParts, GridPoint}
 use Rattle.drawing_search.proofs.Common.{IsConsistent, IsFreeFor, IsLegalSketch, IsRun, IsTrack, NodeId, PlainWalk}
 use Rattle.drawing_search.proofs.Common.{Sketch, StandsAfter}
-use Rattle.drawing_search.proofs.Laid.{all_laid_along, cuts_some, pieces_more, run_further, step_of_run, IsLayingFrom, IsStepOf}
-use Rattle.drawing_search.proofs.LaySteps.{cut_at, cut_even, cut_order, cut_within, laying_begins, piece_at, points_inside}
+use Rattle.drawing_search.proofs.Laid.{all_laid_along, cuts_some, pieces_more, run_further, step_of_run, IsLayingFrom, IsStepOf, cut_at, cut_even, cut_order, cut_within, laying_begins, piece_at, points_inside}
 use Rattle.drawing_search.proofs.Steps.{piece_end}
 
 -- the walk that was found, step by step, and where it is cut

@@ -3,7 +3,7 @@ use Rattle.std.proofs.lemmas.Iterator.Adapters.{YieldsList-from_vec}
 use Rattle.std.proofs.lemmas.Iterator.Consumers.{YieldsList-end, YieldsList-turn}
 use Rattle.drawing_search.proofs.Common.{all_place, bare_sketch, contains, is_even, is_standing, length_push, list_all}
 use Rattle.drawing_search.proofs.Common.{nowhere, points_of, stood, walk_in, with_walk_of, PlainWalk, Sketch}
-use Rattle.drawing_search.proofs.Built.{node_built, node_flag, node_low, nodes_none, walk_below, walk_built, walk_free, walks_all, walks_none, with_walks}
+use Rattle.drawing_search.proofs.Beginning.{node_built, node_flag, node_low, nodes_none, walk_below, walk_built, walk_free, walks_all, walks_none, with_walks}
 use Rattle.drawing_search.proofs.searching.sketch_of.Goals as goal
 
 same : (ws : List PlainWalk) → map (λ w. w) ws ≡ ws

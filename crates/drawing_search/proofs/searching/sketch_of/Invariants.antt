@@ -1,5 +1,5 @@
 use Rattle.std.proofs.Common.{◌≡◌, ◌-◌, length}
-use Rattle.drawing_search.proofs.Built.{with_nodes, with_walks}
+use Rattle.drawing_search.proofs.Beginning.{with_nodes, with_walks}
 use Rattle.drawing_search.proofs.searching.sketch_of.Given as goal
 
 -- so many nodes stand

@@ -1,6 +1,6 @@
 use Rattle.std.proofs.Common.{◌∙◌, ◌++◌, sym, ap, subst, List}
 use Rattle.drawing_search.proofs.Common.{points_of, Dir, GridPoint, IsTrack}
-use Rattle.drawing_search.proofs.LaySteps.{track_of}
+use Rattle.drawing_search.proofs.Laid.{track_of}
 use Rattle.drawing_search.proofs.cutting.Track.of.Goals as goal
 
 pub returns-clause-track : goal.returns-clause-track

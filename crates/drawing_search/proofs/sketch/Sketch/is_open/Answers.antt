@@ -30,19 +30,17 @@ returns-then-not-contains c =
 
 pub returns-then-is_node : goal.returns-then-is_node
 returns-then-is_node c =
-    let k = c.args.self.now in
     let p = c.args.p in
     let board = c.self.invariant ∙ ap board_of c.self.view_is in
     let inside = ap (λ (b : Bounds). contains b p) (sym (c.bounds.ensures.value ∙ ap (λ (b : BoardParts). b.bounds) board)) ∙ sym c.contains.ensures ∙ c.if-not-contains.false in
     let node = ap (λ (b : BoardParts). b.is_node p) (sym board) ∙ sym c.is_node.ensures ∙ c.if-is_node.true in
-    sym (ap₂ (λ s t. s && (not t && not ((board_of k).is_taken (doubled p)))) inside node)
+    sym (ap₂ (λ s t. s && (not t && not ((board_of c.args.self.now).is_taken (doubled p)))) inside node)
 
 pub returns : goal.returns
 returns c =
-    let k = c.args.self.now in
     let p = c.args.p in
     let board = c.self.invariant ∙ ap board_of c.self.view_is in
     let inside = ap (λ (b : Bounds). contains b p) (sym (c.bounds.ensures.value ∙ ap (λ (b : BoardParts). b.bounds) board)) ∙ sym c.contains.ensures ∙ c.if-not-contains.false in
     let node = ap (λ (b : BoardParts). b.is_node p) (sym board) ∙ sym c.is_node.ensures ∙ c.if-is_node.false in
     let taken = c.is_taken.ensures ∙ ap₂ (λ (b : BoardParts) (q : GridPoint). b.is_taken q) board c.doubled.ensures in
-    ap not taken ∙ sym (ap₂ (λ s t. s && (not t && not ((board_of k).is_taken (doubled p)))) inside node)
+    ap not taken ∙ sym (ap₂ (λ s t. s && (not t && not ((board_of c.args.self.now).is_taken (doubled p)))) inside node)

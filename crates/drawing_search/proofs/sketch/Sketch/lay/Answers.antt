@@ -2,8 +2,7 @@ use Rattle.std.proofs.Common.{◌≡◌, refl, sym, ◌∙◌, ap, subst, ◌+�
 use Rattle.std.proofs.lemmas.Result.{err_from_is_err_and}
 use Rattle.drawing_search.proofs.Common.{even_steps, is_even, option_map, point_at, vec_items, ChainStep, GridPoint}
 use Rattle.drawing_search.proofs.FewSteps.{run_few}
-use Rattle.drawing_search.proofs.Laid.{cuts_none, none_laid, uncut_laid}
-use Rattle.drawing_search.proofs.LaySteps.{few_points, first_even, some_points}
+use Rattle.drawing_search.proofs.Laid.{cuts_none, none_laid, uncut_laid, few_points, first_even, some_points}
 use Rattle.drawing_search.proofs.RunReads.{no_step}
 use Rattle.drawing_search.proofs.RunSteps.{cut_run, step_laid, step_ready, way_begins, way_cuts, way_ends}
 use Rattle.drawing_search.proofs.sketch.Sketch.lay.Goals as goal

@@ -15,8 +15,7 @@ point-to-requires c = omega (arith, run_to c.args.field.graph.now c.requires.fie
 
 pub walk_limit-most-requires-clause-enough : goal.walk_limit-most-requires-clause-enough
 walk_limit-most-requires-clause-enough c =
-    let k = c.args.self.now.sketch in
-    let to = c.point-to.ensures ∙ ap (λ (n : NodeId). point_of_node k n.0) c.end-end.ensures in
+    let to = c.point-to.ensures ∙ ap (λ (n : NodeId). point_of_node c.args.self.now.sketch n.0) c.end-end.ensures in
     omega (arith, c.requires.room, ap₂ (λ (p q : GridPoint). slice_index c.args.least.by (straight_way p q)) c.point-from.ensures to)
 
 -- no walk within the limit
