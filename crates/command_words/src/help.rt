@@ -188,8 +188,7 @@ Example:
 
 pub(crate) const FEED: &str = "The folder with the tables of an unpacked GTFS Schedule feed";
 
-pub(crate) const QUIET: &str =
-    "Write nothing to standard error";
+pub(crate) const QUIET: &str = "Write nothing to standard error";
 
 pub(crate) const NEW_SVG: &str = "The file that the map is written to";
 
