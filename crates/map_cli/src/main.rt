@@ -253,7 +253,10 @@ fn unread_words(rt: &HostRuntime, error: &io::Error) -> Status {
     if error.kind() == io::ErrorKind::OutOfMemory {
         return Status::NoMemory;
     }
-    let _not_shown = writeln!(output(rt), "octimap: a word of the command line is not UTF-8");
+    let _not_shown = writeln!(
+        output(rt),
+        "octimap: a word of the command line is not UTF-8"
+    );
     Status::Usage
 }
 
