@@ -1,5 +1,5 @@
 -- Counts and sums of a list, one element after another.
-use Rattle.std.proofs.Common.{◌≡◌, ℕ, zero, suc, ◌+◌, ◌<◌, ◌≤◌, ◌⊎◌, inl, inr, Bool, true, false, cond, max, List, [], ◌∷◌, filter, fold, get_or, length, take, sum_by, refl, ap, sym, ◌∙◌, arith}
+use Rattle.std.proofs.Common.{◌≡◌, ℕ, zero, suc, ◌+◌, ◌<◌, ◌≤◌, ◌⊎◌, inl, inr, Bool, true, false, cond, max, List, [], ◌∷◌, Result, Ok, Err, IfErr, filter, fold, get_or, length, take, sum_by, refl, ap, sym, ◌∙◌, arith}
 use Rattle.std.proofs.lemmas.Bool.{cases_lt}
 use Rattle.std.proofs.lemmas.List.Filters.{length-filter_more}
 use Rattle.std.proofs.lemmas.List.Sums.{sum_by_more}
@@ -44,3 +44,8 @@ no_more_below a b none = of_case (cases_lt b a)
     of_case : (b < a) ⊎ (a ≤ b) → b < a
     of_case (inl above) = above
     of_case (inr below) = absurd (none below)
+
+-- what holds holds of each fault
+pub of_fault : {T E : Type 0} (r : Result T E) (P : Type 0) → P → IfErr r (λ (fault : E). P)
+of_fault (Ok x) P holds = tt
+of_fault (Err fault) P holds = holds

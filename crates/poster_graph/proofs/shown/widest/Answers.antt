@@ -1,11 +1,11 @@
-use Rattle.std.proofs.Common.{◌≡◌, ℕ, ◌*◌, ◌<◌, max, List, get_or, ap, subst, sym, ◌∙◌, arith}
+use Rattle.std.proofs.Common.{◌≡◌, ℕ, ◌*◌, ◌<◌, true≢false, max, List, get_or, ap, subst, sym, ◌∙◌, arith}
 use Rattle.std.proofs.lemmas.List.{take_all}
 use Rattle.std.proofs.lemmas.List.Sums.{fold_more}
 use Rattle.map_base.specs.declared.ids.LineId.{LineId}
 use Rattle.svg_writer.specs.Picture.{name_of}
 use Rattle.name_widths.specs.Widths.{text_width}
 use Rattle.poster_rules.specs.Plans.{widest}
-use Rattle.poster_graph.proofs.Steps.{max_at, no_more_below}
+use Rattle.poster_graph.proofs.Steps.{max_at, no_more_below, of_fault}
 use Rattle.poster_graph.proofs.shown.widest.Goals as goal
 
 abbrev none : LineId
@@ -29,12 +29,15 @@ returns-in_err-width-clause-room c =
     let name : LineId → List ℕ = λ l. name_of c.args.names.now l in
     let wide : 1152921504606846976 < text_width (name (get_or lines i none)) =
     subst (λ (n : List ℕ). 1152921504606846976 < text_width n) c.name_of.ensures c.in_err-width.ensures.room in
-    omega (arith, wide, max_at (λ (l : LineId). 3 * text_width (name l)) 0 lines i none c.loop-line-test.true)
+    let all : 17179869184 < widest c.args.names.now lines =
+    omega (arith, wide, max_at (λ (l : LineId). 3 * text_width (name l)) 0 lines i none c.loop-line-test.true) in
+    of_fault c.from_residual.result (17179869184 < widest c.args.names.now lines) all
 
 pub returns-in_err-whole-clause-room : goal.returns-in_err-whole-clause-room
 returns-in_err-whole-clause-room c =
-    subst (λ (n : ℕ). 17179869184 < n) (c.loop-line.invariant ∙ ap (widest c.args.names.now) (take_all c.loop-line.line-index c.args.lines.now (omega arith)))
-    (no_more_below c.loop-line.most 17179869184 c.in_err-whole.ensures.room.1)
+    let most = c.loop-line.invariant ∙ ap (widest c.args.names.now) (take_all c.loop-line.line-index c.args.lines.now (omega arith)) in
+    of_fault c.from_residual-in_err-whole.result (17179869184 < widest c.args.names.now c.args.lines.now)
+    (subst (λ (n : ℕ). 17179869184 < n) most (no_more_below c.loop-line.most 17179869184 (λ low. true≢false (sym (c.in_err-whole.ensures.room.1 low)))))
 
 pub returns-clause-value : goal.returns-clause-value
 returns-clause-value c = c.in_ok-whole.ensures.value ∙ c.loop-line.invariant ∙ ap (widest c.args.names.now) (take_all c.loop-line.line-index c.args.lines.now (omega arith))
