@@ -75,7 +75,7 @@ fn segment_lines(alloc: Global, graph: &LineGraph) -> Result<Vec<Sequence<LineId
 {
     let mut lines = Vec::new(alloc);
     for s in 0..graph.segs() {
-        let copy = Sequence::of(graph.lines(SegId(s)).to_vec(alloc)?);
+        let copy = copy_of_lines(alloc, graph.lines(SegId(s)))?;
         lines.push(copy)?;
     }
     Ok(lines)
@@ -89,7 +89,7 @@ fn node_rounds(alloc: Global, graph: &LineGraph) -> Result<Vec<Sequence<SegId>>,
 {
     let mut rounds = Vec::new(alloc);
     for n in 0..graph.nodes() {
-        let copy = Sequence::of(graph.round(NodeId(n)).to_vec(alloc)?);
+        let copy = copy_of_round(alloc, graph.round(NodeId(n)))?;
         rounds.push(copy)?;
     }
     Ok(rounds)
@@ -103,10 +103,31 @@ fn node_joins(alloc: Global, graph: &LineGraph) -> Result<Vec<Sequence<Join>>, N
 {
     let mut joins = Vec::new(alloc);
     for n in 0..graph.nodes() {
-        let copy = Sequence::of(graph.joins(NodeId(n)).to_vec(alloc)?);
+        let copy = copy_of_joins(alloc, graph.joins(NodeId(n)))?;
         joins.push(copy)?;
     }
     Ok(joins)
+}
+
+/// A copy of lines.
+fn copy_of_lines(alloc: Global, lines: &[LineId]) -> Result<Sequence<LineId>, NoMemory>
+    ensures { IfOk result (λ copy. copy ≡ lines.now) }
+{
+    Ok(Sequence::of(lines.to_vec(alloc)?))
+}
+
+/// A copy of a round.
+fn copy_of_round(alloc: Global, round: &[SegId]) -> Result<Sequence<SegId>, NoMemory>
+    ensures { IfOk result (λ copy. copy ≡ round.now) }
+{
+    Ok(Sequence::of(round.to_vec(alloc)?))
+}
+
+/// A copy of connections.
+fn copy_of_joins(alloc: Global, joins: &[Join]) -> Result<Sequence<Join>, NoMemory>
+    ensures { IfOk result (λ copy. copy ≡ joins.now) }
+{
+    Ok(Sequence::of(joins.to_vec(alloc)?))
 }
 
 /// A copy of a drawing.

@@ -3,10 +3,6 @@
 #![tactic(auto)]
 
 ghost use Rattle.std.specs.Prelude.{◌≡◌, ◌<◌, ◌⊎◌, true, false, IsErrOf, OnOk};
-ghost use Rattle.files_door.specs.Fault.{Rose};
-ghost use Rattle.command_words.specs.Words.{asked_in};
-ghost use Rattle.map_run.specs.Ending.{Ends, IsCaused};
-ghost use Rattle.map_run.specs.Promises.{TakesSteps};
 ghost use Rattle.map_cli.specs.Sessions.{asks_session};
 
 use command_words::{VERSION, asks_version, command_of, is_quiet};
@@ -105,16 +101,7 @@ fn run_whole<F: Files, S: Sinks, L: Ledger>(
     files: &mut F,
     sinks: &mut S,
     steps: &mut Steps<L>,
-) -> Status
-    ensures ends { Ends (asked_in words.now) (F.told files.old)
-        (Rose (F.faults files.old) (F.faults files.new))
-        (Rose (S.faults sinks.old) (S.faults sinks.new))
-        (S.written sinks.old) (S.written sinks.new) result }
-    ensures cause { IsCaused (asked_in words.now)
-        (Rose (F.faults files.old) (F.faults files.new))
-        (Rose (S.faults sinks.old) (S.faults sinks.new)) result }
-    ensures steps { TakesSteps (F.told files.old) (asked_in words.now) steps.old steps.new }
-{
+) -> Status {
     run(alloc, words, files, sinks, steps)
 }
 
