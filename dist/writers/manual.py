@@ -120,11 +120,13 @@ def page(top, commands, made, version, date):
     lines += [".SS help", *HELP, ".PP", "Says how a command is called, with an example."]
     lines += [".SH OPTIONS", *listed(top.options)]
     for head, rows in top.lists.items():
-        lines += [f".SH {head.upper()}"]
+        # what stands in brackets behind a heading is told below it
+        lines += [f".SH {head.partition(' (')[0].upper()}"]
         if head == "Exit status":
             lines += statuses(rows)
         else:
-            lines += ["The folder", ".I examples", "lies in the folder of octimap, or where it is installed in"]
+            lines += ["Here", ".I feed", "is the folder of an unpacked feed. There are some in the folder"]
+            lines += [".I examples", "of octimap's folder, or where it is installed in"]
             lines += [".IR /usr/share/octimap .", ".PP", *display(rows)]
     lines += [".SH SEE ALSO", "The documents of octimap, in", ".I docs", "of its folder, or where it is installed in"]
     lines += [".IR /usr/share/doc/octimap/docs :"]
