@@ -8,8 +8,8 @@ drawn, on a grid whose ways go in eight directions, and lines that run side by s
 splits and separations cost least. Beside the map it writes a certificate: a text by which `octimap check`, or any \
 checker, verifies that the map shows this network and that no other line orders cost less.
 
-Where work is refused, one line on standard output says why, and the exit status of which kind it is. The same input \
-gives the same bytes, on every machine."""
+Where work is refused, the exit status says of which kind that is, and, but for 8, a line on standard output why. \
+The same input gives the same bytes with the same octimap, on every machine."""
 DOCUMENTS = {
     "USING.md": "From the zip of a feed to a map on paper and on the web, and what to do when there is none.",
     "SETTINGS.md": "Each key of a file of settings.",
@@ -125,8 +125,8 @@ def page(top, commands, made, version, date):
         if head == "Exit status":
             lines += statuses(rows)
         else:
-            lines += ["Here", ".I feed", "is the folder of an unpacked feed. There are some in the folder"]
-            lines += [".I examples", "of octimap's folder, or where it is installed in"]
+            lines += ["Here", ".I feed", "is the folder of an unpacked feed, and", ".I my.script", "a file of edits and draws."]
+            lines += ["Some of both lie in the folder", ".I examples", "of octimap's folder or, where it is installed, in"]
             lines += [".IR /usr/share/octimap .", ".PP", *display(rows)]
     lines += [".SH SEE ALSO", "The documents of octimap, in", ".I docs", "of its folder, or where it is installed in"]
     lines += [".IR /usr/share/doc/octimap/docs :"]
