@@ -19,9 +19,9 @@ const LINE: &str =
 
 /// How a node is written.
 const NODE: &str =
-    "a node has the geometry \"Point\" with two whole numbers from -300000000 to 300000000 as coordinates, and the \
-    properties round, joins and, if it is a station, name; round names each segment that ends there once, joins are \
-    [e, f, line] with two segments of round that the line is on, e below f, and rise";
+    "a node has the geometry \"Point\" with two whole numbers from -300000000 to 300000000, written without a point, as \
+    coordinates, and the properties round, joins and, if it is a station, name; round names each segment that ends there \
+    once, joins are [e, f, line] with two segments of round that the line is on, e below f, and rise";
 
 /// How a segment is written.
 const SEGMENT: &str =

@@ -102,7 +102,8 @@ fn routes_line<R: Files + AllocGlobal>(rt: &R, inputs: &Inputs<'_>) -> Result<St
     match route_types(rt, inputs)? {
         Some(types) => types_line(alloc, &types),
         None => Ok(format!(in alloc;
-            "octimap: the map shows nothing: each route is of a type that is not drawn, has no trip, or is hidden\n"
+            "octimap: the map shows nothing: each route is of a type that is not drawn, has no trip between two stations, \
+            or is hidden\n"
         )?),
     }
 }
@@ -127,15 +128,17 @@ fn types_line(alloc: Global, types: &RouteTypes) -> Result<String, NoMemory> {
     }
     if types.left_out.is_empty() {
         return Ok(format!(in alloc;
-            "octimap: the map shows nothing: no route of a type that is drawn has a trip and is not hidden\n"
+            "octimap: the map shows nothing: each route of a type that is drawn has no trip between two stations, or is \
+            hidden\n"
         )?);
     }
     let count = types.routes;
     let left_out = list_of_types(alloc, types.left_out.as_slice())?;
     let all = list_of_types(alloc, types.all.as_slice())?;
     Ok(format!(in alloc;
-        "octimap: the map shows nothing: each route is of a type that is not drawn, has no trip, or is hidden\n\
-        octimap: the types of routes that are not drawn ({count} in routes.txt): {left_out}; to draw them, add --set \
+        "octimap: the map shows nothing: each route is of a type that is not drawn, has no trip between two stations, or \
+        is hidden\n\
+        octimap: routes in routes.txt that are not drawn: {count}; their types: {left_out}; to draw them, add --set \
         'types=[{all}]'\n"
     )?)
 }
