@@ -93,7 +93,7 @@ fn course_hops(
     }
 }
 
-/// The same lists, as sequences.
+/// Hops as sequences, from lists of their points.
 fn sequences(alloc: Global, lists: Vec<Vec<Point>>) -> Result<Hops, NoMemory>
     ensures { IfOk result (λ hops. hops ≡ map (λ list. list.items) lists.items) }
 {

@@ -1,6 +1,6 @@
-//! Files that are read and sinks that are written to, real ones or in memory: a file whole or the cause
-//! why not, and all bytes written or how many of them. Each fault that is told comes with a count of
-//! faults that rose.
+//! The outside as two traits: files that are read, and sinks that are written to. A file is read whole, or it is told
+//! why not; all bytes are written, or it is told how many. Each fault that is told comes with a count of faults that
+//! rose. Files and sinks in memory stand here, those of the disk in disk_door.
 #![tactic(auto)]
 
 mod counts;

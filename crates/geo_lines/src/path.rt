@@ -26,7 +26,7 @@ pub fn shift_path(alloc: Global, points: &[Point], k: i32) -> Result<Vec<Point>,
     Ok(path)
 }
 
-/// The same, in place of what `path` held.
+/// Puts the path of the line k places to the right of a course into `path`, in place of what it held.
 pub fn put_path(path: &mut Vec<Point>, points: &[Point], k: i32) -> Result<(), NoMemory>
     requires course { IsCourse points.now }
     requires places { unsigned_abs k ≤ 10000 }

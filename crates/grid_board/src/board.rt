@@ -59,7 +59,7 @@ impl Board {
         Board::within(alloc, bounds)
     }
 
-    /// The same within bounds.
+    /// A board within bounds that nothing was put on.
     fn within(alloc: Global, bounds: Bounds) -> Result<Board, NoMemory>
         requires { AreBounds bounds }
         ensures { IfOk result (λ board. parts_of board ≡ empty_board bounds) }

@@ -25,7 +25,7 @@ pub(crate) fn flag_walk(taken: &mut Flags, bounds: Bounds, walk: &Walk, flag: bo
     }
 }
 
-/// The same of the doubled points of a run behind its start; tells where it ends.
+/// Raises or lowers the flags of the doubled points of a run behind its start; tells where the run ends.
 fn flag_run(taken: &mut Flags, bounds: Bounds, start: GridPoint, run: Run, flag: bool) -> GridPoint
     requires bounds { AreBounds bounds }
     requires flags { length taken.old ≡ cells_of (doubled_bounds bounds) }
@@ -40,7 +40,7 @@ fn flag_run(taken: &mut Flags, bounds: Bounds, start: GridPoint, run: Run, flag:
     at
 }
 
-/// The same of the doubled points of a step behind its start; tells where it ends.
+/// Raises or lowers the flags of the doubled points of a step behind its start; tells where the step ends.
 fn flag_step(taken: &mut Flags, bounds: Bounds, start: GridPoint, dir: Dir, flag: bool) -> GridPoint
     requires bounds { AreBounds bounds }
     requires flags { length taken.old ≡ cells_of (doubled_bounds bounds) }
@@ -57,7 +57,7 @@ fn flag_step(taken: &mut Flags, bounds: Bounds, start: GridPoint, dir: Dir, flag
     end
 }
 
-/// The same of a point.
+/// Raises or lowers the flag of a point, doubled.
 fn flag_point(taken: &mut Flags, bounds: Bounds, at: GridPoint, flag: bool)
     requires bounds { AreBounds bounds }
     requires flags { length taken.old ≡ cells_of (doubled_bounds bounds) }

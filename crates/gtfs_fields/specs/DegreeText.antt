@@ -42,7 +42,8 @@ microdegrees_of units decimals tens = digits_value 10 (units ++ decimals) * 10 ^
 abbrev pub most_microdegrees : ℕ
 most_microdegrees = 10 ^ 12
 
--- the same where there is at least one digit and nothing else, the exponent is right and the number not too great
+-- the microdegrees of digits before a point and behind it, where there is at least one digit and nothing else, the
+-- exponent is right and the number not too great
 abbrev pub degrees_with_tens : List ℕ → List ℕ → Option (ℕ × ℕ) → Option ℕ
 degrees_with_tens units decimals None = None
 degrees_with_tens units decimals (Some tens) = if are_digits (units ++ decimals) then up_to most_microdegrees (microdegrees_of units decimals tens) else None

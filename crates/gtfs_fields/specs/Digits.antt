@@ -17,6 +17,6 @@ up_to most number = if nat_le number most then Some number else None
 abbrev pub with_digit : ℕ → ℕ → ℕ → Option ℕ
 with_digit most number byte = if is_ascii_digit byte then up_to most (number * 10 + digit_value byte) else None
 
--- the same of all bytes of a text
+-- the number that all bytes of a text make behind another, where they are digits and the number at most `most`
 abbrev pub with_digits : ℕ → ℕ → List ℕ → Option ℕ
 with_digits most number text = if all_ascii_digits text then up_to most (digits_value_after 10 number text) else None

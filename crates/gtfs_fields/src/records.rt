@@ -21,8 +21,8 @@ fn new_reader<'a>(alloc: Global, bytes: &'a [u8]) -> Reader<&'a [u8]>
         .from_reader(alloc, bytes)
 }
 
-/// The same on the heap, as a reader holds 16 KB. What a reader takes of the stack before it is there is let go before
-/// a row is read.
+/// A reader of the records of these bytes on the heap, as it holds 16 KB. What a reader takes of the stack before it is
+/// there is let go before a row is read.
 #[inline(never)]
 pub(crate) fn reader_of<'a>(
     alloc: Global,

@@ -87,7 +87,7 @@ fn graph_of_net(
     Ok(made.graph)
 }
 
-/// The same with the chains of its segments.
+/// The line graph of courses over the net of their samples, with the chains of its segments.
 pub(crate) fn chained_graph(
     alloc: Global,
     courses: &Courses,

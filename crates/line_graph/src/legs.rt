@@ -22,7 +22,7 @@ pub(crate) fn stretches_of(alloc: Global, courses: &[Course]) -> Result<Stretche
     Ok(table)
 }
 
-/// The same stretches, with the legs of one more course.
+/// These stretches with the legs of one more course.
 fn with_course(alloc: Global, table: Stretches, course: &Course) -> Result<Stretches, NoMemory>
     requires { HasHops course.now }
     ensures { IfOk result (λ made. made ≡ fold with_leg table (legs_of course.now)) }

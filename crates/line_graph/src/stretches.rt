@@ -61,7 +61,7 @@ impl Stretches {
         }
     }
 
-    /// The same, with more samples of a stretch.
+    /// These with more samples of a stretch, the last of them where it is new.
     pub(crate) fn with(
         mut self,
         alloc: Global,

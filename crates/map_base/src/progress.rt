@@ -46,7 +46,7 @@ pub struct Progress {
 }
 
 impl Progress {
-    /// That of a run that begins; told on standard error from now on, where that is a terminal to be written to.
+    /// How far a run is that begins: told on standard error from now on, where that is a terminal to be written to.
     pub fn new(terminal: Option<HostRuntime>) -> Progress {
         Progress {
             terminal: clocked(terminal),

@@ -37,7 +37,8 @@ impl<L: Ledger> Steps<L> {
         Steps::watched(blank, None)
     }
 
-    /// The same, told to whoever watches, if there is somebody.
+    /// A counter, watched: it is at 0, over a ledger that nothing was written in, and what is noted is told to whoever
+    /// watches, if there is somebody.
     pub fn watched(blank: Blank, watched: Option<Arc<Progress, Global>>) -> Steps<L>
         requires name { blank.name ≡ L.name }
         requires parts { blank.parts ≡ L.parts }

@@ -40,7 +40,8 @@ pub(crate) fn kind_of(word: &[u8]) -> Option<Kind>
     }
 }
 
-/// The same of edits that name a station or a line, and of the last.
+/// What the first word of a line says that the edit does, where it is `rename`, `move`, `colour`, `importance` or
+/// `undo`.
 fn kind_with_id(word: &[u8]) -> Option<Kind>
     ensures { result ≡ kind_with_id word.now }
 {

@@ -37,7 +37,8 @@ pub(crate) fn note_costs_to(
     search(net, corridor, from, to, known, &mut queue)
 }
 
-/// The same, with a queue in which nothing waits.
+/// Notes, where nothing is known, the least costs at which `to` can be reached, as far as they are no greater than that
+/// of `from`, by a queue in which nothing waits.
 fn search(
     net: &Net,
     corridor: &Corridor,

@@ -90,7 +90,7 @@ are_clockwise (d ∷ ds) = are_rising 0 (map (clockwise_from d) ds)
 abbrev pub port_at : ℕ → Leg → Option Dir
 port_at n l = if l.0.0.0 == n then start_port l.1 else end_port l.1
 
--- the same, where there is a walk
+-- the port of a walk at an end node of its segment, where there is a walk
 abbrev pub port_where : ℕ → Option Leg → Option Dir
 port_where n None = None
 port_where n (Some l) = port_at n l

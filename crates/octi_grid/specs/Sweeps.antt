@@ -9,7 +9,7 @@ abbrev pub sweep_on : ℕ → Dir → Dir → Option Sweep
 sweep_on low first port =
     if nat_lt low (clockwise_from first port) then Some (record { first = Some first; furthest = clockwise_from first port }) else None
 
--- the same, where there may be no first port yet
+-- a sweep that has come so far goes on over a port, which is the first where there is none yet
 abbrev pub sweep_from : Option Dir → ℕ → Dir → Option Sweep
 sweep_from None low port = Some (record { first = Some port; furthest = 0 })
 sweep_from (Some first) low port = sweep_on low first port

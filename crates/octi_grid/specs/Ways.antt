@@ -73,7 +73,7 @@ abbrev pub doubled_from : GridPoint → List Dir → List GridPoint
 doubled_from p [] = doubled p ∷ []
 doubled_from p (d ∷ ds) = doubled p ∷ step_from (doubled p) d ∷ doubled_from (step_from p d) ds
 
--- the same point
+-- two points are one
 abbrev pub are_one : GridPoint → GridPoint → Bool
 are_one p q = int_eq p.x q.x && int_eq p.y q.y
 
@@ -81,7 +81,7 @@ are_one p q = int_eq p.x q.x && int_eq p.y q.y
 abbrev pub is_within : GridPoint → Bool
 is_within p = nat_le (unsigned_abs p.x) 10000 && nat_le (unsigned_abs p.y) 10000
 
--- the same as a fact
+-- the point lies within 10,000 either way, as a fact
 pub record IsWithin (p : GridPoint) : Type 0 where
   pub across : unsigned_abs p.x ≤ 10000
   pub along : unsigned_abs p.y ≤ 10000

@@ -30,7 +30,7 @@ impl Sweep {
         }
     }
 
-    /// The same, over a port.
+    /// The sweep over one port more; none where that is no further than the last one.
     fn over(self, port: Dir) -> Option<Sweep>
         ensures { result ≡ sweep_over self port }
     {
@@ -43,7 +43,7 @@ impl Sweep {
         }
     }
 
-    /// The same, from a first port.
+    /// The sweep over one port more from a first port; none where that is no further than the last one.
     fn on(self, first: Dir, port: Dir) -> Option<Sweep>
         ensures { result ≡ sweep_on self.furthest first port }
     {

@@ -1,9 +1,7 @@
 //! The tables of routes and trips of a GTFS feed: its lines and each trip's line and shape, or the first bad row.
 //!
 //! A line is a route of `routes.txt` whose type is asked for; a trip of `trips.txt` is selected where its route is a
-//! line (GTFS Schedule reference). A row that can't be read is refused and never repaired: the answer is then the
-//! first bad row, with the least reason of `Why` that it meets. Each answer is exactly the one that `specs/` defines
-//! for the rows.
+//! line (GTFS Schedule reference). Each answer is exactly the one that `specs/` defines for the rows.
 #![tactic(auto)]
 
 mod known;

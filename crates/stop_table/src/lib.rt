@@ -1,8 +1,7 @@
 //! The table of stops of a GTFS feed: its stations and where each stop leads, or its first bad row.
 //!
-//! `stops.txt` (GTFS Schedule reference) has stations, stops, entrances, generic nodes and boarding areas. A row
-//! that can't be read is refused and never repaired: the answer is then the first bad row, with the least reason of
-//! `Why` that it meets. Each answer is exactly the one that `specs/` defines for the rows.
+//! `stops.txt` (GTFS Schedule reference) has stations, stops, entrances, generic nodes and boarding areas. Each answer
+//! is exactly the one that `specs/` defines for the rows.
 #![tactic(auto)]
 
 mod feed_stops;

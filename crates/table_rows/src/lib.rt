@@ -1,8 +1,8 @@
 //! Rows of a feed's tables: their files, columns, fields and ids, and the first bad row with its least reason.
 //!
-//! What all tables of a feed share (GTFS Schedule reference). Columns are found by their names in the header,
-//! spaces at both ends aside, the first of equal names; an absent column, and a field that a row lacks, read as
-//! empty.
+//! What all tables of a feed share (GTFS Schedule reference). Columns are found by their names in the header, spaces at
+//! both ends aside, the first of equal names; an absent column, and a field that a row lacks, read as empty, and fields
+//! past the header are passed over.
 #![tactic(auto)]
 
 mod cells;
