@@ -6,7 +6,7 @@ use Rattle.command_run.specs.declared.delivery.Ending.{Ending}
 use Rattle.command_run.specs.declared.delivery.Ending.TheVariants.{Whole, CutShort, OutOfMemory}
 use Rattle.command_run.specs.Delivered.{IsDelivered, outputs_acts}
 use Rattle.command_run.specs.Work.{outcome}
-use Rattle.command_run.specs.Told.{file_of}
+use Rattle.command_run.specs.Told.{file_of, IsRun}
 use Rattle.command_run.proofs.WorkLemmas.{told_outcome}
 use Rattle.map_run.specs.declared.answer.Answer.{Answer}
 use Rattle.run_status.specs.declared.input.Input.{Input}
@@ -24,7 +24,7 @@ use Rattle.run_status.specs.Statuses.{status_of}
 use Rattle.map_run.specs.Commands.{work}
 use Rattle.run_status.specs.Following.{HasCause, ComesTo, Follows}
 use Rattle.map_run.specs.Promises.{Keeps, TakesSteps}
-use Rattle.map_run.specs.Ending.{IsAnswerTo, IsDue, IsWritten, IsEndWritten, IsLeft, IsOutOfMemory, Ends, IsCaused, status_after}
+use Rattle.map_run.specs.Ending.{IsAnswerTo, IsDue, IsWritten, IsEndWritten, IsLeft, IsOutOfMemory, Ends, IsCaused, Reads, status_after}
 use Rattle.run_status.proofs.FollowLemmas.{comes_to}
 
 abbrev pub Told : Type 0
@@ -69,37 +69,37 @@ no_steps told (Some (trial number)) steps = inl refl
 no_steps told asked steps = refl
 
 -- the cause of the status of an answer
-answer_caused : (asked : Option Asked) (told : Told) (files_rose sinks_rose : Type 0) (answer : Answer) → IsAnswerTo asked told files_rose answer → IsCaused asked files_rose sinks_rose answer.status
-answer_caused None told files_rose sinks_rose answer is = subst (λ (a : Answer). IsCaused None files_rose sinks_rose a.status) (sym is) refl
+answer_caused : (asked : Option Asked) (told : Told) (files_rose sinks_rose : Type 0) (answer : Answer) → IsAnswerTo asked told files_rose answer → IsCaused asked told files_rose sinks_rose answer.status
+answer_caused None told files_rose sinks_rose answer is = subst (λ (a : Answer). IsCaused None told files_rose sinks_rose a.status) (sym is) refl
 answer_caused (Some asked) told files_rose sinks_rose answer (result, comes, keeps, is) =
-    subst (λ (a : Answer). IsCaused (Some asked) files_rose sinks_rose a.status) (sym is) (by_result result comes)
+    subst (λ (a : Answer). IsCaused (Some asked) told files_rose sinks_rose a.status) (sym is) (by_result result comes)
   where
-    by_line : (line : Option ℕ) → IsCaused (Some asked) files_rose sinks_rose (status_at line)
+    by_line : (line : Option ℕ) → IsCaused (Some asked) told files_rose sinks_rose (status_at line)
     by_line None = tt
     by_line (Some line) = tt
 
-    by_result : (r : Result Finished Refusal) → ComesTo told (input_path asked) files_rose (work asked) r → IsCaused (Some asked) files_rose sinks_rose (answer_by (input_path asked) r).status
+    by_result : (r : Result Finished Refusal) → ComesTo told (input_path asked) files_rose (work asked) r → IsCaused (Some asked) told files_rose sinks_rose (answer_by (input_path asked) r).status
     by_result (Ok finished) comes = by_line finished.bad_line
-    by_result (Err (refused.ReadFault input)) comes = (comes.0, (asked, input, refl, refl, (comes.1.seen, comes.1.runs)))
+    by_result (Err (refused.ReadFault input)) comes = (comes.0, (asked, input, refl, refl, comes.1))
     by_result (Err why) comes = tt
 
 after_caused : (asked : Option Asked) (told : Told) (files_rose sinks_rose : Type 0) (answer : Answer) (line : List ℕ) (old new : Option Written) (ending : Ending)
-    → IsAnswerTo asked told files_rose answer → IsDelivered answer.outputs line sinks_rose old new ending → IsCaused asked files_rose sinks_rose (status_after answer.status ending)
+    → IsAnswerTo asked told files_rose answer → IsDelivered answer.outputs line sinks_rose old new ending → IsCaused asked told files_rose sinks_rose (status_after answer.status ending)
 after_caused asked told files_rose sinks_rose answer line old new Whole is delivered = answer_caused asked told files_rose sinks_rose answer is
 after_caused asked told files_rose sinks_rose answer line old new CutShort is delivered = delivered.1
 after_caused asked told files_rose sinks_rose answer line old new OutOfMemory is delivered = tt
 
 -- the cause of the status of a script that is left off
-left_caused : (asked : Option Asked) (files_rose sinks_rose : Type 0) (outputs : List Output) (old new : Option Written) (ended : Status) → IsLeft outputs sinks_rose old new ended → IsCaused asked files_rose sinks_rose ended
-left_caused asked files_rose sinks_rose outputs old new ended (inl cut) = subst (λ (s : Status). IsCaused asked files_rose sinks_rose s) (sym cut.0) cut.1.1
-left_caused asked files_rose sinks_rose outputs old new ended (inr out) = subst (λ (s : Status). IsCaused asked files_rose sinks_rose s) (sym out.0) tt
+left_caused : (asked : Option Asked) (told : Told) (files_rose sinks_rose : Type 0) (outputs : List Output) (old new : Option Written) (ended : Status) → IsLeft outputs sinks_rose old new ended → IsCaused asked told files_rose sinks_rose ended
+left_caused asked told files_rose sinks_rose outputs old new ended (inl cut) = subst (λ (s : Status). IsCaused asked told files_rose sinks_rose s) (sym cut.0) cut.1.1
+left_caused asked told files_rose sinks_rose outputs old new ended (inr out) = subst (λ (s : Status). IsCaused asked told files_rose sinks_rose s) (sym out.0) tt
 
 -- a run that ends so has a status with its cause
-pub caused : (asked : Option Asked) (told : Told) (files_rose sinks_rose : Type 0) (old new : Option Written) (ended : Status) → Ends asked told files_rose sinks_rose old new ended → IsCaused asked files_rose sinks_rose ended
+pub caused : (asked : Option Asked) (told : Told) (files_rose sinks_rose : Type 0) (old new : Option Written) (ended : Status) → Ends asked told files_rose sinks_rose old new ended → IsCaused asked told files_rose sinks_rose ended
 caused asked told files_rose sinks_rose old new ended (inl (answer, is, written)) =
-    subst (λ (s : Status). IsCaused asked files_rose sinks_rose s) (sym written.4) (after_caused asked told files_rose sinks_rose answer written.0 old new written.1 is written.3)
-caused asked told files_rose sinks_rose old new ended (inr (inl left)) = left_caused asked files_rose sinks_rose left.1.outputs old new ended left.5
-caused asked told files_rose sinks_rose old new ended (inr (inr out)) = subst (λ (s : Status). IsCaused asked files_rose sinks_rose s) (sym out.1) tt
+    subst (λ (s : Status). IsCaused asked told files_rose sinks_rose s) (sym written.4) (after_caused asked told files_rose sinks_rose answer written.0 old new written.1 is written.3)
+caused asked told files_rose sinks_rose old new ended (inr (inl left)) = left_caused asked told files_rose sinks_rose left.1.outputs old new ended left.5
+caused asked told files_rose sinks_rose old new ended (inr (inr out)) = subst (λ (s : Status). IsCaused asked told files_rose sinks_rose s) (sym out.1) tt
 
 -- words that are not read end with the help, or want of memory
 after_usage : (answer : Answer) (line : List ℕ) (rose : Type 0) (old new : Option Written) (ending : Ending) → answer ≡ alone status.Usage → IsDelivered answer.outputs line rose old new ending
@@ -122,15 +122,16 @@ unread_usage asked told files_rose sinks_rose old new ended none (inr (inr out))
 
 -- over files that are told the answer that is due is the defined one, or names an input that was left unread
 pub told_answer : (asked : Asked) (files : List (List ℕ × List ℕ)) (rose : Type 0) (answer : Answer) → IsDue (Some asked) (Some files) rose answer
-    → (answer ≡ answer_by (input_path asked) (outcome (work asked) (file_of files (input_path asked)))) ⊎ ((input : Input) × rose × (answer ≡ alone (status.ReadFault (input_path asked input))))
+    → (answer ≡ answer_by (input_path asked) (outcome (work asked) (file_of files (input_path asked)))) ⊎ ((input : Input) × rose × Reads (Some files) asked input × (answer ≡ alone (status.ReadFault (input_path asked input))))
 told_answer asked files rose answer (result, comes, is) =
     by_case (told_outcome refused.ReadFault (work asked) (file_of files (input_path asked)) comes.1.seen result comes.1.are_told comes.1.runs)
   where
     by_case : (result ≡ outcome (work asked) (file_of files (input_path asked))) ⊎ ((input : Input) × (result ≡ Err (refused.ReadFault input)))
-        → (answer ≡ answer_by (input_path asked) (outcome (work asked) (file_of files (input_path asked)))) ⊎ ((input : Input) × rose × (answer ≡ alone (status.ReadFault (input_path asked input))))
+        → (answer ≡ answer_by (input_path asked) (outcome (work asked) (file_of files (input_path asked)))) ⊎ ((input : Input) × rose × Reads (Some files) asked input × (answer ≡ alone (status.ReadFault (input_path asked input))))
     by_case (inl defined) = inl (is ∙ ap (answer_by (input_path asked)) defined)
     by_case (inr (input, left)) = inr (
       input,
       subst (λ (r : Result Finished Refusal). HasCause rose r) left comes.0,
+      subst (λ (r : Result Finished Refusal). IsRun refused.ReadFault (Some files) (input_path asked) (work asked) r) left comes.1,
       is ∙ ap (answer_by (input_path asked)) left,
     )

@@ -5,7 +5,7 @@ use Rattle.files_door.specs.Acts.{Does}
 use Rattle.command_run.specs.declared.output.Output.{Output}
 use Rattle.command_run.specs.declared.delivery.Ending.{Ending}
 use Rattle.command_run.specs.declared.delivery.Ending.TheVariants.{Whole, CutShort, OutOfMemory}
-use Rattle.command_run.specs.Work.{Seen, Runs}
+use Rattle.command_run.specs.Told.{IsRun}
 use Rattle.command_run.specs.Delivered.{IsDelivered, line_acts, no_memory_line}
 use Rattle.command_run.specs.Held.{line_outputs}
 use Rattle.map_run.specs.declared.answer.Answer.{Answer}
@@ -106,17 +106,17 @@ IsToBeWritten asked told files_rose outputs =
     (outputs ≡ [])
     ⊎ ((answer : Answer) × (line : List ℕ) × IsDue asked told files_rose answer × IsLineOf answer.status line × (outputs ≡ answer.outputs ++ line_outputs line))
 
--- an input that the command comes to read, where the inputs before it give something
-abbrev pub Reads : Asked → Input → Type 0
-Reads asked input = (seen : List (Seen Input)) × Runs refused.ReadFault (work asked) seen (Err (refused.ReadFault input))
+-- an input that the command comes to read over the files, and can't read
+abbrev pub Reads : Option (List (List ℕ × List ℕ)) → Asked → Input → Type 0
+Reads told asked input = IsRun refused.ReadFault told (input_path asked) (work asked) (Err (refused.ReadFault input))
 
 -- a status has its cause
-abbrev pub IsCaused : Option Asked → Type 0 → Type 0 → Status → Type 0
+abbrev pub IsCaused : Option Asked → Option (List (List ℕ × List ℕ)) → Type 0 → Type 0 → Status → Type 0
 -- words that are not read, and no others, end with the help
-IsCaused asked files_rose sinks_rose status.Usage = asked ≡ None
+IsCaused asked told files_rose sinks_rose status.Usage = asked ≡ None
 -- a fault of reading or writing comes only where its count rose, and that of reading at an input
-IsCaused asked files_rose sinks_rose (status.ReadFault path) =
-    files_rose × ((command : Asked) × (input : Input) × (asked ≡ Some command) × (path ≡ input_path command input) × Reads command input)
-IsCaused asked files_rose sinks_rose status.WriteFault = sinks_rose
+IsCaused asked told files_rose sinks_rose (status.ReadFault path) =
+    files_rose × ((command : Asked) × (input : Input) × (asked ≡ Some command) × (path ≡ input_path command input) × Reads told command input)
+IsCaused asked told files_rose sinks_rose status.WriteFault = sinks_rose
 -- what words end with that are not read is said by itself; want of memory is free
-IsCaused asked files_rose sinks_rose other = ⊤
+IsCaused asked told files_rose sinks_rose other = ⊤

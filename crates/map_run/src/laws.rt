@@ -20,16 +20,16 @@ ghost use Rattle.map_commands.specs.MapWorks.{proved_line};
 ghost use Rattle.map_run.specs.Answers.{Finished, alone, answer_by, status_at, whole};
 ghost use Rattle.run_status.specs.Outputs.{said};
 ghost use Rattle.map_run.specs.Commands.{work};
-ghost use Rattle.map_run.specs.Ending.{Ends, IsAnswerTo, IsDue, IsLineOf, IsToBeWritten};
+ghost use Rattle.map_run.specs.Ending.{Ends, IsAnswerTo, IsDue, IsLineOf, IsToBeWritten, Reads};
 ghost use Rattle.map_run.specs.Headline.{IsImprovedMapWritten, IsMapWritten, LieAsMade, SaysProved, to_check};
 
-/// Over files that are told, the answer that is due to a command is the one that they define, or it names the path of an input,
-/// and the files' count of faults rose.
+/// Over files that are told, the answer that is due to a command is the one that they define; or it names the path of an input
+/// that these files lead the command to read, and their count of faults rose.
 pub fn told_files_decide_the_answer()
     ensures { (asked : Asked) (files : List (List ℕ × List ℕ)) (before now : ℕ) (answer : Answer)
         → IsDue (Some asked) (Some files) (Rose before now) answer
         → (answer ≡ answer_by (input_path asked) (outcome (work asked) (file_of files (input_path asked))))
-        ⊎ ((input : Input) × Rose before now × (answer ≡ alone (status.ReadFault (input_path asked input)))) }
+        ⊎ ((input : Input) × Rose before now × Reads (Some files) asked input × (answer ≡ alone (status.ReadFault (input_path asked input)))) }
 {}
 
 /// A run that ends with the status of its answer leaves in each target what its outputs and the line of the status

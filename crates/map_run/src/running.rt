@@ -62,7 +62,7 @@ pub fn run<F: Files, S: Sinks, L: Ledger>(
         (S.written sinks.old) (S.written sinks.new) result }
 
     // Each status has its cause.
-    ensures cause { IsCaused (asked_in words.now)
+    ensures cause { IsCaused (asked_in words.now) (F.told files.old)
         (Rose (F.faults files.old) (F.faults files.new))
         (Rose (S.faults sinks.old) (S.faults sinks.new)) result }
     ensures usage { asked_in words.now ≡ None → (result ≡ Status.Usage) ⊎ (result ≡ Status.NoMemory) }

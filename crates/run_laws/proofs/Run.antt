@@ -7,8 +7,8 @@ use Rattle.command_run.specs.declared.delivery.Ending.TheVariants.{CutShort, Out
 use Rattle.command_run.specs.declared.output.Output.{Output}
 use Rattle.command_run.specs.Delivered.{IsDelivered}
 use Rattle.command_run.specs.Held.{line_outputs, IsBeginning}
-use Rattle.command_run.specs.Told.{file_of}
-use Rattle.command_run.specs.Work.{Runs, outcome}
+use Rattle.command_run.specs.Told.{file_of, IsRun}
+use Rattle.command_run.specs.Work.{outcome}
 use Rattle.command_run.proofs.ActLemmas.{delivered_nothing}
 use Rattle.command_run.proofs.HeldLemmas.{standing_of}
 use Rattle.command_run.proofs.WorkLemmas.{told_outcome}
@@ -46,7 +46,7 @@ module _ (asked : Asked) (files : List (List ℕ × List ℕ)) (files_rose sinks
       by_case (inr (input, unread)) = inr (
         input,
         subst (λ (r : Result Finished Refusal). HasCause files_rose r) unread comes.0,
-        (comes.1.seen, subst (λ (r : Result Finished Refusal). Runs refused.ReadFault (work asked) comes.1.seen r) unread comes.1.runs),
+        subst (λ (r : Result Finished Refusal). IsRun refused.ReadFault (Some files) (input_path asked) (work asked) r) unread comes.1,
         is ∙ ap (answer_by (input_path asked)) unread,
       )
 

@@ -21,11 +21,12 @@ use Rattle.asked_inputs.specs.Inputs.{input_path}
 abbrev pub defined_answer : Asked → List (List ℕ × List ℕ) → Answer
 defined_answer asked files = answer_by (input_path asked) (outcome (work asked) (file_of files (input_path asked)))
 
--- the answer is the defined one, or it names an input that the command comes to read, and the files' count of faults rose
+-- the answer is the defined one, or it names an input that the command comes to read over these files, and their count of
+-- faults rose
 abbrev pub IsAnswerOver : Asked → List (List ℕ × List ℕ) → Type 0 → Answer → Type 0
 IsAnswerOver asked files rose answer =
     (answer ≡ defined_answer asked files)
-    ⊎ ((input : Input) × rose × Reads asked input × (answer ≡ alone (status.ReadFault (input_path asked input))))
+    ⊎ ((input : Input) × rose × Reads (Some files) asked input × (answer ≡ alone (status.ReadFault (input_path asked input))))
 
 -- What a run is: there is an answer, with the line of its status, and it is delivered whole, cut short, or until memory ran
 -- out. The status is that of the answer, or says that writing failed, or that memory ran out. And each target holds what
