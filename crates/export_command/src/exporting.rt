@@ -4,17 +4,14 @@ ghost use Rattle.std.specs.Prelude.{◌≡◌, IfOk};
 ghost use Rattle.files_door.specs.Fault.{Rose};
 ghost use Rattle.line_graph.specs.Outcome.{graph_outcome};
 ghost use Rattle.command_inputs.specs.Inputs.{input_at, inputs_by};
-ghost use Rattle.export_command.specs.ExportWorks.{export_work, exported, exported_text, file_outputs};
+ghost use Rattle.export_command.specs.ExportWorks.{export_work, exported, file_outputs, AreOfExport, WritesGraph};
 ghost use Rattle.run_status.specs.Following.{Follows, Gives};
 
+use crate::written::exported_text;
 use command_inputs::{Inputs, Loaded, load};
 use command_run::Output;
 use files_door::{Files, Target};
-use graph_core::LineGraph;
-use graph_json::write_graph;
-use line_graph::build;
 use map_base::{NoMemory, Sequence, Text};
-use map_engine::{importance_of, names_of};
 use run_status::Refusal;
 use std::alloc::Global;
 
@@ -27,6 +24,7 @@ pub fn export_graph<F: Files>(
 ) -> Result<Sequence<Output>, Refusal>
     ensures follows { Follows (F.told files.old) (input_at (inputs_by inputs.now))
         (Rose (F.faults files.old) (F.faults files.new)) (λ outputs. outputs) (export_work (inputs_by inputs.now).chosen out.now) result }
+    ensures keeps { IfOk result (AreOfExport (F.told files.old) (inputs_by inputs.now) out.now) }
 {
     let loaded = load(alloc, inputs, files)?;
     exported(alloc, &loaded, out)
@@ -34,21 +32,12 @@ pub fn export_graph<F: Files>(
 
 /// The line graph of what is loaded to its file, or the limit that is met first.
 fn exported(alloc: Global, loaded: &Loaded, out: &str) -> Result<Sequence<Output>, Refusal>
-    ensures { Gives (λ outputs. outputs) result
+    ensures given { Gives (λ outputs. outputs) result
         (exported loaded.now out.now (graph_outcome loaded.now.settings.near loaded.now.tables)) }
+    ensures writes { IfOk result (WritesGraph loaded.now out.now) }
 {
-    let graph = build(alloc, &loaded.tables, &loaded.settings)?;
-    let text = text_of(alloc, loaded, &graph)?;
+    let text = exported_text(alloc, &loaded.tables, &loaded.settings)?;
     Ok(write_file(alloc, out, text)?)
-}
-
-/// The text of a line graph, with the names and the importance of what is loaded.
-fn text_of(alloc: Global, loaded: &Loaded, graph: &LineGraph) -> Result<Vec<u8>, NoMemory>
-    ensures { IfOk result (λ text. text.items ≡ exported_text loaded.now graph.now) }
-{
-    let names = names_of(alloc, &loaded.tables)?;
-    let importance = importance_of(alloc, &loaded.tables, &loaded.settings)?;
-    write_graph(alloc, graph, &names, &importance)
 }
 
 /// The one output of a text to its file.

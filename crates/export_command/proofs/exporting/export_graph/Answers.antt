@@ -9,24 +9,26 @@ use Rattle.command_inputs.specs.Inputs.{input_at, inputs_by}
 use Rattle.export_command.specs.ExportWorks.{exported}
 use Rattle.command_inputs.specs.Loading.{load_work}
 use Rattle.run_status.proofs.FollowLemmas.{follows_refused, follows_value}
+use Rattle.export_command.proofs.ExportLemmas.{are_of_export}
 use Rattle.export_command.proofs.exporting.export_graph.Goals as goal
 
-pub returns-in_err-loaded : goal.returns-in_err-loaded
-returns-in_err-loaded g c =
+pub returns-in_err-loaded-clause-follows : goal.returns-in_err-loaded-clause-follows
+returns-in_err-loaded-clause-follows g c =
     let told = g.F.Files.told c.args.files.now in
     let paths = input_at (inputs_by c.args.inputs.now) in
     let rose = Rose (g.F.Files.faults c.args.files.now) (g.F.Files.faults c.load.new.files) in
-    record {
-      follows = follows_refused told paths rose (λ (l : Loaded). l) (λ (o : List Output). o) (load_work (inputs_by c.args.inputs.now).chosen) (λ l. ends (exported l c.args.out.now (graph_outcome l.settings.near l.tables))) c.in_err-loaded.field-0.0 c.from_residual.result
-          (err_from_is_err_and c.from_residual.result c.from_residual.ensures.1) c.in_err-loaded.ensures.follows;
-    }
+    follows_refused told paths rose (λ (l : Loaded). l) (λ (o : List Output). o) (load_work (inputs_by c.args.inputs.now).chosen) (λ l. ends (exported l c.args.out.now (graph_outcome l.settings.near l.tables))) c.in_err-loaded.field-0.0 c.from_residual.result
+    (err_from_is_err_and c.from_residual.result c.from_residual.ensures.1) c.in_err-loaded.ensures.follows
 
-pub returns : goal.returns
-returns g c =
+pub returns-clause-follows : goal.returns-clause-follows
+returns-clause-follows g c =
     let told = g.F.Files.told c.args.files.now in
     let paths = input_at (inputs_by c.args.inputs.now) in
     let rose = Rose (g.F.Files.faults c.args.files.now) (g.F.Files.faults c.load.new.files) in
-    record {
-      follows = follows_value told paths rose (λ (l : Loaded). l) (λ (o : List Output). o) (load_work (inputs_by c.args.inputs.now).chosen) (λ l. exported l c.args.out.now (graph_outcome l.settings.near l.tables)) c.in_ok-loaded.loaded c.exported.result
-          c.in_ok-loaded.ensures.follows c.exported.ensures;
-    }
+    follows_value told paths rose (λ (l : Loaded). l) (λ (o : List Output). o) (load_work (inputs_by c.args.inputs.now).chosen) (λ l. exported l c.args.out.now (graph_outcome l.settings.near l.tables)) c.in_ok-loaded.loaded c.exported.result
+    c.in_ok-loaded.ensures.follows c.exported.ensures.given
+
+pub returns-clause-keeps : goal.returns-clause-keeps
+returns-clause-keeps g c =
+    are_of_export (g.F.Files.told c.args.files.now) (inputs_by c.args.inputs.now) c.args.out.now (Rose (g.F.Files.faults c.args.files.now) (g.F.Files.faults c.load.new.files))
+    c.in_ok-loaded.loaded c.exported.result c.in_ok-loaded.ensures.follows c.exported.ensures.writes

@@ -1,0 +1,12 @@
+mod DualOrders
+mod Numbers
+mod NodeKinds
+mod Moves
+mod Straight
+mod Terms
+mod Orders
+mod Pictures
+mod Certificates
+mod MadeAgain
+mod FeedAgain
+mod ExportLemmas
