@@ -19,9 +19,9 @@ use Rattle.run_status.specs.declared.status.Status.{Status}
 use Rattle.run_status.specs.Following.{Follows, Gives}
 use Rattle.run_status.proofs.FollowLemmas.{follows_refused, follows_value, gives_follows}
 use Rattle.command_inputs.specs.Inputs.{InputPaths, input_at}
-use Rattle.table_commands.specs.TableWorks.{graph_work, stations_work}
+use Rattle.table_commands.specs.TableWorks.{graph_work, stations_work, AreOfGraph}
 use Rattle.map_commands.specs.MapWorks.{check_work, make_work}
-use Rattle.export_command.specs.ExportWorks.{export_work}
+use Rattle.export_command.specs.ExportWorks.{export_work, AreOfExport}
 use Rattle.map_commands.specs.ImportWorks.{import_work, AreOfImported, SearchesImported}
 use Rattle.page_command.specs.PageWorks.{page_work}
 use Rattle.map_commands.specs.Promises.{AreOfMap, AreOfYes, SearchesParts}
@@ -100,6 +100,8 @@ work_by (page shown html) p = page_work html
 
 -- what it promises of its outputs
 abbrev promised_by : Told → Asked → InputPaths → List Output → Type 0
+promised_by told (graph feed chosen) p outputs = AreOfGraph told p outputs
+promised_by told (export feed out chosen) p outputs = AreOfExport told p out outputs
 promised_by told (imported json paths chosen) p outputs = AreOfImported told p paths outputs
 promised_by told (make feed paths chosen) p outputs = AreOfMap told p paths outputs
 promised_by told (improve feed paths moves chosen) p outputs = AreOfImproved told p paths moves outputs

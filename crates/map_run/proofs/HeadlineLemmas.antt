@@ -16,7 +16,7 @@ use Rattle.run_status.specs.declared.refusal.Refusal.{Refusal}
 use Rattle.run_status.specs.declared.refusal.Refusal.TheVariants as refused
 use Rattle.run_status.specs.declared.status.Status.{Status}
 use Rattle.run_status.specs.declared.status.Status.TheVariants as status
-use Rattle.command_words.specs.Asked.{Asked, imported, make, improve, check, depict, session, page}
+use Rattle.command_words.specs.Asked.{Asked, graph, export, imported, make, improve, check, depict, session, page}
 use Rattle.command_paths.specs.Paths.{MapPaths}
 use Rattle.command_words.specs.Words.{asked, asked_in}
 use Rattle.command_words.proofs.Apart.{AreApart, AreNewApart, asked_apart}
@@ -109,6 +109,25 @@ refusal_not_done paths (refused.BadRow table row why) same = cc
 refusal_not_done paths why same = cc
 
 means : (told : Told) (command : Asked) (finished : Finished) (old new : Written) → AreApart (Some command) → Promised told command finished → finished.bad_line ≡ None → Holds finished.outputs old new → MeansDone told command old new
+means told (graph feed chosen) finished old new apart promised none holds =
+    let has = subst (λ (o : List Output). Holds o old new) promised.tells.are holds in
+    record {
+      loaded = promised.loaded;
+      loads = promised.loads;
+      graph = promised.tells.graph;
+      of_feed = promised.tells.of_feed;
+      kept = promised.tells.kept;
+      printed = has Said;
+    }
+means told (export feed out chosen) finished old new apart promised none holds =
+    let has = subst (λ (o : List Output). Holds o old new) promised.writes.are holds in
+    record {
+      loaded = promised.loaded;
+      loads = promised.loads;
+      text = promised.writes.text;
+      exported = promised.writes.exported;
+      holds = has (Path out) ∙ one_held out promised.writes.text (held_by (Path out) old);
+    }
 means told (imported json paths chosen) finished old new apart promised none holds =
     let has = subst (λ (o : List Output). Holds o old new) promised.are holds in
     record {

@@ -127,7 +127,7 @@ named_lies : (files later : List (List ℕ × List ℕ)) (named : Option (List �
 named_lies files later None same = tt
 named_lies files later (Some path) same = same
 
-loads_are : (files : List (List ℕ × List ℕ)) (asked : Asked) (loaded : Loaded) → Loads (Some files) (inputs_of asked) loaded → outcome (load_work (inputs_of asked).chosen) (file_of files (input_path asked)) ≡ Ok loaded
+pub loads_are : (files : List (List ℕ × List ℕ)) (asked : Asked) (loaded : Loaded) → Loads (Some files) (inputs_of asked) loaded → outcome (load_work (inputs_of asked).chosen) (file_of files (input_path asked)) ≡ Ok loaded
 loads_are files asked loaded loads =
     by_run (told_outcome refused.ReadFault (load_work (inputs_of asked).chosen) (file_of files (input_path asked)) loads.seen (Ok loaded) loads.are_told loads.runs)
   where

@@ -31,6 +31,11 @@ use Rattle.map_commands.specs.ImproveWorks.{improved_line}
 use Rattle.command_inputs.specs.Loading.{Loads}
 use Rattle.map_method.specs.declared.map_settings.MapSettings.{MapSettings}
 use Rattle.graph_json.specs.declared.imported.Imported.{Imported}
+use Rattle.graph_core.specs.declared.parts.GraphParts.{GraphParts}
+use Rattle.line_graph.specs.Outcome.{graph_outcome}
+use Rattle.line_graph.specs.Rides.{KeepsLines}
+use Rattle.line_graph.specs.Text.{graph_text}
+use Rattle.export_command.specs.Exchanged.{IsExported}
 use Rattle.graph_maps.specs.Promises.{IsMadeOn}
 use Rattle.graph_maps.specs.Subjects.{told_by}
 use Rattle.command_run.specs.Told.{IsRun}
@@ -123,11 +128,30 @@ pub record IsSessionWritten (told : Option (List (List ℕ × List ℕ))) (asked
   pub kept : KeepDraws loaded script
   pub holds : held_by (Path out) new ≡ Some (session_text loaded script)
 
+-- The line graph of a feed is printed behind what standard output held: exactly that of the feed's tables, in which no line
+-- is lost, and none is made up.
+pub record IsGraphPrinted (told : Option (List (List ℕ × List ℕ))) (asked : Asked) (old new : Written) : Type 0 where
+  pub loaded : Loaded
+  pub loads : Loads told (inputs_of asked) loaded
+  pub graph : GraphParts
+  pub of_feed : graph_outcome loaded.settings.near loaded.tables ≡ Ok graph
+  pub kept : KeepsLines loaded.settings.near loaded.tables graph
+  pub printed : held_by Said new ≡ Some (unwrap_or (held_by Said old) [] ++ graph_text loaded.tables.stations graph)
+
+-- The line graph of a feed is written as a graph file: exactly that of the feed's tables, in which no line is lost. It is
+-- read as this graph, and of what is read the map is made that is made of the feed, under settings that agree.
+pub record IsExportWritten (told : Option (List (List ℕ × List ℕ))) (asked : Asked) (out : List ℕ) (new : Written) : Type 0 where
+  pub loaded : Loaded
+  pub loads : Loads told (inputs_of asked) loaded
+  pub text : List ℕ
+  pub exported : IsExported loaded.tables loaded.settings text
+  pub holds : held_by (Path out) new ≡ Some text
+
 -- what status 0 means, by the command
 abbrev pub MeansDone : Option (List (List ℕ × List ℕ)) → Asked → Written → Written → Type 0
 MeansDone told (stations feed) old new = ⊤
-MeansDone told (graph feed chosen) old new = ⊤
-MeansDone told (export feed out chosen) old new = ⊤
+MeansDone told (graph feed chosen) old new = IsGraphPrinted told (graph feed chosen) old new
+MeansDone told (export feed out chosen) old new = IsExportWritten told (export feed out chosen) out new
 MeansDone told (imported json paths chosen) old new = IsImportWritten told (imported json paths chosen) paths new
 MeansDone told (make feed paths chosen) old new = IsMapWritten told (make feed paths chosen) paths new
 MeansDone told (improve feed paths moves chosen) old new = IsImprovedMapWritten told (improve feed paths moves chosen) paths moves old new

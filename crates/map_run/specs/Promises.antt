@@ -2,6 +2,8 @@
 use Rattle.std.specs.Prelude.{◌≡◌, ℕ, List, Option, None, Some, Result, Ok, Err, ⊤}
 use Rattle.command_words.specs.Asked.{Asked, stations, graph, export, imported, make, improve, check, depict, session, trial, page}
 use Rattle.run_status.specs.declared.refusal.Refusal.{Refusal}
+use Rattle.table_commands.specs.TableWorks.{AreOfGraph}
+use Rattle.export_command.specs.ExportWorks.{AreOfExport}
 use Rattle.map_commands.specs.Promises.{AreOfMap, AreOfYes, SearchesParts}
 use Rattle.map_commands.specs.ImproveWorks.{AreOfImproved}
 use Rattle.map_commands.specs.ImportWorks.{AreOfImported, SearchesImported}
@@ -19,8 +21,8 @@ played_of finished = record { outputs = finished.outputs; bad = finished.bad_lin
 -- what a command promises of its end, beside that its work comes to it
 abbrev pub Promised : Option (List (List ℕ × List ℕ)) → Asked → Finished → Type 0
 Promised told (stations feed) finished = ⊤
-Promised told (graph feed chosen) finished = ⊤
-Promised told (export feed out chosen) finished = ⊤
+Promised told (graph feed chosen) finished = AreOfGraph told (inputs_of (graph feed chosen)) finished.outputs
+Promised told (export feed out chosen) finished = AreOfExport told (inputs_of (export feed out chosen)) out finished.outputs
 Promised told (imported json paths chosen) finished = AreOfImported told (inputs_of (imported json paths chosen)) paths finished.outputs
 Promised told (make feed paths chosen) finished = AreOfMap told (inputs_of (make feed paths chosen)) paths finished.outputs
 Promised told (improve feed paths moves chosen) finished = AreOfImproved told (inputs_of (improve feed paths moves chosen)) paths moves finished.outputs

@@ -1,2 +1,4 @@
 mod Run
+mod AfterExport
+mod RunAfterExport
 mod Examples

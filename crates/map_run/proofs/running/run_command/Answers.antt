@@ -16,13 +16,13 @@ pub returns-in-Graph-clause-ends : goal.returns-in-Graph-clause-ends
 returns-in-Graph-clause-ends g c =
     outputs_end (g.F.Files.told c.args.files.now) (asked_by c.args.command.now) _ _ c.print_line_graph-outcome.result _
     (inputs_by c.inputs_of-inputs.result) _ _ _ (ap asked_by c.in-Graph.is) c.inputs_of-inputs.ensures refl (λ o h. h)
-    c.print_line_graph-outcome.ensures.follows (no_promise c.print_line_graph-outcome.result) c.write_outcome-in-Graph.ensures.written
+    c.print_line_graph-outcome.ensures.follows c.print_line_graph-outcome.ensures.keeps c.write_outcome-in-Graph.ensures.written
 
 pub returns-in-Export-clause-ends : goal.returns-in-Export-clause-ends
 returns-in-Export-clause-ends g c =
     outputs_end (g.F.Files.told c.args.files.now) (asked_by c.args.command.now) _ _ c.export_graph-outcome.result _
     (inputs_by c.inputs_of-inputs.result) _ _ _ (ap asked_by c.in-Export.is) c.inputs_of-inputs.ensures refl (λ o h. h)
-    c.export_graph-outcome.ensures.follows (no_promise c.export_graph-outcome.result) c.write_outcome-in-Export.ensures.written
+    c.export_graph-outcome.ensures.follows c.export_graph-outcome.ensures.keeps c.write_outcome-in-Export.ensures.written
 
 pub returns-in-Make-clause-ends : goal.returns-in-Make-clause-ends
 returns-in-Make-clause-ends g c =

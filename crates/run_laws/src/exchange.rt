@@ -1,8 +1,16 @@
-//! The law of the commands' work.
+//! What `import` comes to behind `export`.
 
 ghost use Rattle.std.specs.Prelude.{◌≡◌, ℕ, List, Option, Some, None, Ok, Err};
+ghost use Rattle.files_door.specs.declared.target.Target.TheVariants.{Path};
+ghost use Rattle.files_door.specs.Files.{file_at};
+ghost use Rattle.files_door.specs.Targets.{Written, held_by};
 ghost use Rattle.map_method.specs.declared.map_settings.MapSettings.{MapSettings};
 ghost use Rattle.command_run.specs.Work.{outcome};
+ghost use Rattle.command_run.specs.Told.{file_of};
+ghost use Rattle.command_words.specs.Asked.{export, imported, make};
+ghost use Rattle.asked_inputs.specs.Inputs.{input_path};
+ghost use Rattle.map_run.specs.Commands.{work};
+ghost use Rattle.map_run.specs.Headline.{IsExportWritten};
 ghost use Rattle.command_paths.specs.Paths.{Chosen, MapPaths, NewPaths};
 ghost use Rattle.run_status.specs.declared.input.Input.{Input};
 ghost use Rattle.run_status.specs.declared.input.Input.TheVariants.{Graph};
@@ -31,4 +39,18 @@ pub fn import_comes_to_what_make_comes_to()
         ≡ unless_long text (outcome (make_work chosen (no_page paths)) given) }
     ensures refused { (chosen : Chosen) (out : List ℕ) (paths : NewPaths) (given : Input → Option (List ℕ)) (why : Refusal)
         → outcome (export_work chosen out) given ≡ Err why → outcome (make_work chosen paths) given ≡ Err why }
+{}
+
+/// A run of `import` over the file that a run of `export` wrote comes to what `make` comes to over the files of that run,
+/// under settings that agree with those of `export`: the same map and certificate, or the same refusal. A file above the
+/// limit is refused for its length.
+pub fn import_reads_what_export_wrote()
+    ensures { (feed out : List ℕ) (chosen importing : Chosen) (paths : MapPaths) (files later : List (List ℕ × List ℕ))
+        (new : Written) (all : MapSettings)
+        → (written : IsExportWritten (Some files) (export feed out chosen) out new)
+        → file_at later out ≡ held_by (Path out) new
+        → outcome (settings_by importing.defaults importing.sets importing.settings) (file_of later (input_path (imported out paths importing))) ≡ Ok all
+        → AreAlike written.loaded.settings all.settings → all.method ≡ written.loaded.method
+        → outcome (work (imported out paths importing)) (file_of later (input_path (imported out paths importing)))
+        ≡ unless_long written.text (outcome (work (make feed (no_page paths) chosen)) (file_of files (input_path (make feed (no_page paths) chosen)))) }
 {}
