@@ -3,6 +3,10 @@
 #![tactic(auto)]
 
 ghost use Rattle.std.specs.Prelude.{◌≡◌, ◌<◌, ◌⊎◌, true, false, IsErrOf, OnOk};
+ghost use Rattle.files_door.specs.Fault.{Rose};
+ghost use Rattle.command_words.specs.Words.{asked_in};
+ghost use Rattle.map_run.specs.Promise.{IsPromised};
+ghost use Rattle.map_cli.specs.Ends.{IsEndFor};
 ghost use Rattle.map_cli.specs.Sessions.{asks_session};
 
 use command_words::{VERSION, asks_version, command_of, is_quiet};
@@ -60,6 +64,7 @@ fn run_counted<L: Ledger>(rt: &HostRuntime, words: &[String], blank: Blank) -> S
     requires name { blank.name ≡ L.name }
     requires parts { blank.parts ≡ L.parts }
     requires some_part { 0 < blank.parts }
+    ensures { IsEndFor (asked_in words.now) result ⊎ (result ≡ Status.Usage) }
 {
     match clash_in(rt, words) {
         Ok(None) => run_on_disk::<L>(rt, words, blank),
@@ -76,6 +81,7 @@ fn run_on_disk<L: Ledger>(rt: &HostRuntime, words: &[String], blank: Blank) -> S
     requires name { blank.name ≡ L.name }
     requires parts { blank.parts ≡ L.parts }
     requires some_part { 0 < blank.parts }
+    ensures { IsEndFor (asked_in words.now) result }
 {
     let progress = progress_of(rt, words);
     let mut files = DiskFiles::watched(rt, again(&progress));
@@ -101,7 +107,11 @@ fn run_whole<F: Files, S: Sinks, L: Ledger>(
     files: &mut F,
     sinks: &mut S,
     steps: &mut Steps<L>,
-) -> Status {
+) -> Status
+    ensures { IsPromised words.now (F.told files.old)
+        (Rose (F.faults files.old) (F.faults files.new)) (Rose (S.faults sinks.old) (S.faults sinks.new))
+        (S.written sinks.old) (S.written sinks.new) steps.old steps.new result }
+{
     run(alloc, words, files, sinks, steps)
 }
 
@@ -122,7 +132,9 @@ fn again(progress: &Option<Arc<Progress, Global>>) -> Option<Arc<Progress, Globa
 
 /// Puts what a run wrote in its place, or forgets it; the status that the program ends with.
 #[inline(never)]
-fn end<R: rt::Files + Print>(status: Status, words: &[String], sinks: &mut DiskSinks<R>) -> Status {
+fn end<R: rt::Files + Print>(status: Status, words: &[String], sinks: &mut DiskSinks<R>) -> Status
+    ensures { (result ≡ status) ⊎ ((result ≡ Status.WriteFault) ⊎ (result ≡ Status.NoMemory)) }
+{
     if is_put_in_place(&status, words, sinks) {
         return status_after(status, sinks.put_in_place());
     }

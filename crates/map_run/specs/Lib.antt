@@ -3,3 +3,4 @@ pub mod Commands
 pub mod Promises
 pub mod Ending
 pub mod Headline
+pub mod Promise
