@@ -1,3 +1,4 @@
 mod ImportanceLemmas
 mod FeedMaps
 mod MadePosters
+mod SolvedParts

@@ -1,6 +1,6 @@
 //! What definitions come to, as laws: of what is kept from map to map, of moves, of the line graph, and of posters.
 
-ghost use Rattle.std.specs.Prelude.{◌≡◌, ℕ, List, Ok, All, Contains};
+ghost use Rattle.std.specs.Prelude.{◌≡◌, ℕ, List, Ok, All, Contains, true};
 ghost use Rattle.map_base.specs.Settings.{Choices};
 ghost use Rattle.map_method.specs.Methods.{MethodChoices};
 ghost use Rattle.map_method.specs.declared.claim.Claim.{Claim};
@@ -8,12 +8,14 @@ ghost use Rattle.transit_feed.specs.Feeds.{Feed};
 ghost use Rattle.graph_core.specs.declared.parts.GraphParts.{GraphParts};
 ghost use Rattle.line_graph.specs.Outcome.{graph_outcome};
 ghost use Rattle.kept_trees.specs.OwnTrees.{HeldPart};
-ghost use Rattle.graph_maps.specs.Making.{MapBytes, made_on};
+ghost use Rattle.graph_maps.specs.Problems.{untangled_problem, Drawn};
+ghost use Rattle.graph_maps.specs.Solving.{is_solvable, parts_in};
+ghost use Rattle.graph_maps.specs.Making.{plan_of, MapBytes, made_on};
 ghost use Rattle.graph_maps.specs.Readings.{certificate_in};
 ghost use Rattle.graph_maps.specs.Improving.{ImprovedBytes};
 ghost use Rattle.map_engine.specs.Tables.{subject_of};
 ghost use Rattle.map_engine.specs.Keeping.{finished_parts, branches_left};
-ghost use Rattle.map_engine.specs.Making.{make_outcome};
+ghost use Rattle.map_engine.specs.Making.{drawn_outcome, make_outcome};
 ghost use Rattle.map_engine.specs.Improving.{improve_outcome};
 ghost use Rattle.map_engine.specs.Postering.{poster_outcome, IsPoster};
 ghost use Rattle.map_engine.specs.Promises.{IsMade};
@@ -50,3 +52,13 @@ pub fn what_is_made_has_its_poster()
 {
     each_certificate_is_read_from_its_text();
 }
+
+/// Where a feed has a line graph within the limits, with a drawing and no more terms than are worked on, and each part of the
+/// problem of its line orders is solved within the budget, there is a map of it.
+pub fn a_map_is_made_where_each_part_is_solvable()
+    ensures { (feed : Feed) (choices : Choices) (method : MethodChoices) (drawn : Drawn)
+        → drawn_outcome feed choices method ≡ Ok drawn
+        → All (λ part. is_solvable (plan_of choices method) (untangled_problem drawn.problem) part ≡ true)
+        (parts_in (untangled_problem drawn.problem))
+        → (made : MapBytes) × (make_outcome feed choices method ≡ Ok made) }
+{}

@@ -20,8 +20,9 @@ pub use importance::importance_of;
 pub use kept_drawing::LastDrawing;
 pub use kept_trees::Kept;
 pub use laws::{
-    maps_are_made_of_the_line_graph, moves_follow_routes_or_come_later,
-    what_is_made_has_its_poster, what_was_made_is_not_searched_again,
+    a_map_is_made_where_each_part_is_solvable, maps_are_made_of_the_line_graph,
+    moves_follow_routes_or_come_later, what_is_made_has_its_poster,
+    what_was_made_is_not_searched_again,
 };
 pub use making::{make, make_again, make_improved, make_on_graph};
 pub use map_faults::{CheckFault, CheckItem, MakeFault};
