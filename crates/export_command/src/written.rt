@@ -15,7 +15,11 @@ use std::alloc::Global;
 use transit_feed::{Line, Tables};
 
 /// The text that `export` writes of tables and settings: what is read of it makes the map that is made of the tables.
-pub(crate) fn exported_text(alloc: Global, tables: &Tables, settings: &Settings) -> Result<Vec<u8>, LimitFault>
+pub(crate) fn exported_text(
+    alloc: Global,
+    tables: &Tables,
+    settings: &Settings,
+) -> Result<Vec<u8>, LimitFault>
     ensures exported { IfOk result (λ text. IsExported tables.now settings.now text.items) }
     ensures cause { IfErr result (λ fault. HasCause (graph_outcome settings.now.near tables.now) fault) }
 {
