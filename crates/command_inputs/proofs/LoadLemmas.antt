@@ -2,7 +2,6 @@
 use Rattle.std.proofs.Common.{◌≡◌, ℕ, List, Option, None, Some, Result, Ok, Err, refl, sym, subst}
 use Rattle.map_method.specs.declared.defaults.Defaults.{Defaults}
 use Rattle.map_method.specs.declared.map_settings.MapSettings.{MapSettings}
-use Rattle.map_method.specs.Defaults.{default_choices}
 use Rattle.transit_feed.specs.Feeds.{Feed}
 use Rattle.command_run.specs.Work.{Work, ends, ◌>>=◌}
 use Rattle.command_paths.specs.Paths.{Chosen}
@@ -11,7 +10,7 @@ use Rattle.run_status.specs.declared.refusal.Refusal.{Refusal}
 use Rattle.run_status.specs.Following.{Follows, Gives}
 use Rattle.run_status.proofs.FollowLemmas.{IsRefusedAs, follows_refused, follows_then, follows_value, gives_follows}
 use Rattle.command_inputs.specs.declared.loaded.Loaded.{Loaded}
-use Rattle.map_settings.specs.Outcome.{sets_outcome}
+use Rattle.map_settings.specs.Outcome.{texts_outcome}
 use Rattle.command_inputs.specs.Loading.{edited_by, edits_file_work, feed_work, settings_by, settings_file_work, settings_given, tables_work}
 
 abbrev pub Told : Type 0
@@ -27,10 +26,10 @@ with_settings choices = tables_work choices.settings.types >>= (λ feed. ends (O
 
 -- a user who names no file has the standard settings
 pub settings_none : (told : Told) (paths : Input → List ℕ) (rose : Type 0) (defaults : Defaults) (sets : List (List ℕ)) (chosen : Option (List ℕ)) (result : Result MapSettings Refusal) → chosen ≡ None
-    → Gives (λ (s : MapSettings). s) result (settings_given (sets_outcome sets (Ok (default_choices defaults)))) → Follows told paths rose (λ (s : MapSettings). s) (settings_by defaults sets chosen) result
+    → Gives (λ (s : MapSettings). s) result (settings_given (texts_outcome defaults sets)) → Follows told paths rose (λ (s : MapSettings). s) (settings_by defaults sets chosen) result
 settings_none told paths rose defaults sets chosen result none gives =
     subst (λ (c : Option (List ℕ)). Follows told paths rose (λ (s : MapSettings). s) (settings_by defaults sets c) result) (sym none)
-    (gives_follows told paths rose (λ (s : MapSettings). s) (settings_given (sets_outcome sets (Ok (default_choices defaults)))) result gives)
+    (gives_follows told paths rose (λ (s : MapSettings). s) (settings_given (texts_outcome defaults sets)) result gives)
 
 -- one who names a file has those that it gives
 pub settings_some : (told : Told) (paths : Input → List ℕ) (rose : Type 0) (defaults : Defaults) (sets : List (List ℕ)) (chosen : Option (List ℕ)) (path : List ℕ) (result : Result MapSettings Refusal) → chosen ≡ Some path

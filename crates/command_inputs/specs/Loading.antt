@@ -1,10 +1,9 @@
 -- What commands read before they work, as pieces of work.
-use Rattle.std.specs.Prelude.{ℕ, List, length, Option, None, Some, Result, Ok, Err, if◌then◌else◌}
+use Rattle.std.specs.Prelude.{ℕ, List, ◌∷◌, length, Option, None, Some, Result, Ok, Err, if◌then◌else◌}
 use Rattle.map_base.specs.declared.limit.LimitKind.TheVariants.{File}
 use Rattle.map_base.specs.Limits.{is_within, limit_of}
 use Rattle.map_method.specs.declared.defaults.Defaults.{Defaults}
 use Rattle.map_method.specs.declared.map_settings.MapSettings.{MapSettings}
-use Rattle.map_method.specs.Defaults.{default_choices}
 use Rattle.table_rows.specs.declared.why.Table.{Table}
 use Rattle.table_rows.specs.declared.why.Table.TheVariants.{Routes, Stops, Trips, Shapes, StopTimes}
 use Rattle.table_rows.specs.declared.fault.FeedFault.{FeedFault}
@@ -12,7 +11,7 @@ use Rattle.transit_feed.specs.Feeds.{Feed}
 use Rattle.gtfs_tables.specs.Feed.{feed_of, routes_outcome, stops_table_outcome, trips_outcome, shapes_outcome, stop_times_outcome}
 use Rattle.map_settings.specs.declared.fault.SettingsWhy.{SettingsWhy}
 use Rattle.map_settings.specs.declared.fault.SettingsWhy.TheVariants as why
-use Rattle.map_settings.specs.Outcome.{settings_outcome, sets_outcome}
+use Rattle.map_settings.specs.Outcome.{texts_outcome}
 use Rattle.map_edits.specs.declared.edit.Edit.{Edit}
 use Rattle.map_edits.specs.Effects.{choices_after, feed_after}
 use Rattle.map_edits.specs.Standing.{edits_in}
@@ -62,7 +61,7 @@ settings_given (Err why) = Err (refused.BadSettings why)
 
 abbrev pub settings_in : Defaults → List (List ℕ) → Option (List ℕ) → Result MapSettings Refusal
 settings_in defaults sets None = Err (refused.BadSettings why.Missing)
-settings_in defaults sets (Some bytes) = settings_given (sets_outcome sets (settings_outcome defaults bytes))
+settings_in defaults sets (Some bytes) = settings_given (texts_outcome defaults (bytes ∷ sets))
 
 -- a file of settings is read, and what is set takes the place of its keys
 abbrev pub settings_file_work : Defaults → List (List ℕ) → Work Input Refusal MapSettings
@@ -72,7 +71,7 @@ settings_file_work defaults sets = do
 
 -- the settings by the file that the user names, or those that hold where a user names none, after what is set
 abbrev pub settings_by : Defaults → List (List ℕ) → Option (List ℕ) → Work Input Refusal MapSettings
-settings_by defaults sets None = ends (settings_given (sets_outcome sets (Ok (default_choices defaults))))
+settings_by defaults sets None = ends (settings_given (texts_outcome defaults sets))
 settings_by defaults sets (Some path) = settings_file_work defaults sets
 
 -- the settings come first, and then the tables by them

@@ -1,21 +1,21 @@
 //! The settings of a command.
 
-ghost use Rattle.std.specs.Prelude.{◌≡◌, ◌≤◌, Ok, option_map};
+ghost use Rattle.std.specs.Prelude.{◌≡◌, ◌≤◌, ◌∷◌, Ok, option_map};
 ghost use Rattle.files_door.specs.Fault.{Rose};
 ghost use Rattle.map_method.specs.Defaults.{default_choices};
 ghost use Rattle.command_inputs.specs.Inputs.{input_at, inputs_by};
 ghost use Rattle.command_inputs.specs.Loading.{settings_by, settings_file_work, settings_given, settings_in};
 ghost use Rattle.command_paths.specs.Sets.{sets_of};
 ghost use Rattle.map_settings.specs.Faults.{Reads};
-ghost use Rattle.map_settings.specs.Outcome.{settings_outcome, sets_outcome};
+ghost use Rattle.map_settings.specs.Outcome.{set_outcome, sets_outcome, texts_outcome};
 ghost use Rattle.run_status.specs.Following.{Follows, Gives};
 
 use crate::input_file::read_file;
 use crate::inputs::Inputs;
 use command_paths::{Options, next_set};
 use files_door::Files;
-use map_method::MapSettings;
-use map_settings::{SettingsFault, SettingsWhy, read_settings, set_settings};
+use map_method::{Defaults, MapSettings};
+use map_settings::{SettingsFault, SettingsWhy, set_settings};
 use run_status::{Input, Refusal};
 use std::alloc::Global;
 
@@ -40,10 +40,30 @@ pub fn settings_for<F: Files>(
 
 /// The settings where a user names no file.
 fn standard(alloc: Global, options: &Options<'_>) -> Result<MapSettings, Refusal>
-    ensures { Gives (λ settings. settings) result (settings_given (sets_outcome (sets_of options.now.words.now) (Ok (default_choices options.now.defaults)))) }
+    ensures { Gives (λ settings. settings) result (settings_given (texts_outcome options.now.defaults (sets_of options.now.words.now))) }
 {
-    let base = MapSettings::standard(alloc, options.defaults)?;
-    Ok(with_sets(alloc, base, options.words)?)
+    Ok(set_alone(alloc, options)?)
+}
+
+/// What is set, over the settings of the command that it names.
+#[tactic(auto, using(map_settings::proofs::Named::read_over, map_settings::proofs::Named::refused_first))]
+fn set_alone(alloc: Global, options: &Options<'_>) -> Result<MapSettings, SettingsFault>
+    ensures { Reads result (texts_outcome options.now.defaults (sets_of options.now.words.now)) }
+{
+    let first = set_over(alloc, options.words, options.defaults)?;
+    set_over(alloc, options.words, first.defaults)
+}
+
+/// What is set, over the settings of a command, whatever its key `method` names.
+fn set_over(
+    alloc: Global,
+    words: &[String],
+    defaults: Defaults,
+) -> Result<MapSettings, SettingsFault>
+    ensures { Reads result (sets_outcome (sets_of words.now) (Ok (default_choices defaults))) }
+{
+    let base = MapSettings::standard(alloc, defaults)?;
+    with_sets(alloc, base, words)
 }
 
 /// The settings by the file that the user names.
@@ -76,17 +96,32 @@ fn settings_in(
     Ok(settings_of(alloc, bytes.as_slice(), options)?)
 }
 
-/// The settings that the bytes of a file make, after what is set.
-#[tactic(auto, using(crate::proofs::SetLemmas::reads_after, crate::proofs::SetLemmas::refused_before))]
+/// The settings that the bytes of a file make, after what is set, over those of the command that they name.
+#[tactic(auto, using(map_settings::proofs::Named::read_over, map_settings::proofs::Named::refused_first))]
 fn settings_of(
     alloc: Global,
     bytes: &[u8],
     options: &Options<'_>,
 ) -> Result<MapSettings, SettingsFault>
-    ensures { Reads result (sets_outcome (sets_of options.now.words.now) (settings_outcome options.now.defaults bytes.now)) }
+    ensures { Reads result (texts_outcome options.now.defaults (bytes.now ∷ sets_of options.now.words.now)) }
 {
-    let base = read_settings(alloc, bytes, options.defaults)?;
-    with_sets(alloc, base, options.words)
+    let first = settings_over(alloc, bytes, options.words, options.defaults)?;
+    settings_over(alloc, bytes, options.words, first.defaults)
+}
+
+/// The settings that the bytes of a file make, after what is set, over those of a command, whatever the key `method` names.
+#[tactic(auto, using(crate::proofs::SetLemmas::reads_after, crate::proofs::SetLemmas::refused_before))]
+fn settings_over(
+    alloc: Global,
+    bytes: &[u8],
+    words: &[String],
+    defaults: Defaults,
+) -> Result<MapSettings, SettingsFault>
+    ensures { Reads result (sets_outcome (sets_of words.now) (set_outcome (default_choices defaults) bytes.now)) }
+{
+    let base = MapSettings::standard(alloc, defaults)?;
+    let file = set_settings(alloc, bytes, base)?;
+    with_sets(alloc, file, words)
 }
 
 /// The settings after those that the words set, one after another.

@@ -10,7 +10,7 @@ use crate::due::is_due;
 use map_base::{Settings, Steps};
 use map_edits::{Edit, EditStop, edited, stand};
 use map_engine::{Kept, LastDrawing, Made, MakeFault, make_again};
-use map_method::{MapSettings, Method};
+use map_method::Method;
 use std::alloc::Global;
 use std::marker::Model;
 use std::sync::ledger::Ledger;
@@ -41,13 +41,13 @@ impl Model for Session {
 
 impl Session {
     /// A session of these tables and settings, in which no edit stands and nothing is kept. It takes no memory.
-    pub fn begin(alloc: Global, tables: Tables, settings: MapSettings) -> Session
-        ensures { result ≡ begun tables settings.settings settings.method }
+    pub fn begin(alloc: Global, tables: Tables, settings: Settings, method: Method) -> Session
+        ensures { result ≡ begun tables settings method }
     {
         Session {
             tables,
-            settings: settings.settings,
-            method: settings.method,
+            settings,
+            method,
             standing: Vec::new(alloc),
             last: LastDrawing::none(),
             kept: Kept::none(alloc),

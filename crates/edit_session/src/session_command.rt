@@ -17,7 +17,6 @@ use crate::stop::ScriptStop;
 use command_inputs::{Inputs, Loaded, load, read_file};
 use files_door::{Files, Sinks, Stop, Target};
 use map_base::{Stage, Steps, Text};
-use map_method::MapSettings;
 use run_status::{Input, Refusal};
 use std::alloc::Global;
 use std::sync::ledger::Ledger;
@@ -95,5 +94,5 @@ fn begin(alloc: Global, loaded: Loaded) -> Session
         method,
         tables,
     } = loaded;
-    Session::begin(alloc, tables, MapSettings { settings, method })
+    Session::begin(alloc, tables, settings, method)
 }

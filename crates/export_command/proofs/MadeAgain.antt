@@ -42,7 +42,7 @@ use Rattle.graph_maps.specs.Certificates.{certificate_of, proof_of}
 use Rattle.graph_maps.specs.Lifted.{lifted_by}
 use Rattle.graph_maps.specs.Making.{if_solved, made_on, map_of, plan_of, solved_map, solved_of, solved_with, MapBytes}
 use Rattle.graph_maps.specs.Moving.{after_moves, walks_after}
-use Rattle.graph_maps.specs.Problems.{drawn_with, routed_by, untangled_problem, Drawn}
+use Rattle.graph_maps.specs.Problems.{drawing_plan, drawn_with, routed_by, untangled_problem, Drawn}
 use Rattle.graph_maps.specs.Solving.{solve_outcome, SolvedPart}
 use Rattle.graph_maps.specs.Subjects.{told_by, Subject}
 use Rattle.export_command.specs.Exchanged.{made_of, AreAlike}
@@ -234,6 +234,6 @@ module _ (g : GraphParts) (names : Names) (importance : List ℕ) (fit : IsConsi
     pub made_again : made_of other method (read_again g names importance) ≡ made_on before choices method g
     made_again =
         ap (λ (o : Result (List PlainWalk) RouteFault). if_solved (solved_map after) (solved_of other method (routed_by new other h o)))
-        (same_drawing g kinds count other.cell method.spread method.finest method.straight
-        ∙ ap (λ (cell : ℕ). drawing_outcome g cell method.spread method.finest method.straight) (sym alike.cell))
-        ∙ routed_same (drawing_outcome g choices.cell method.spread method.finest method.straight)
+        (same_drawing g kinds count (drawing_plan other method)
+        ∙ ap (λ (cell : ℕ). drawing_outcome g (record (drawing_plan choices method) { cell = cell })) (sym alike.cell))
+        ∙ routed_same (drawing_outcome g (drawing_plan choices method))

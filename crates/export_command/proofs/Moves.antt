@@ -2,7 +2,7 @@
 use Rattle.std.proofs.Common.{◌≡◌, ◌∙◌, ap, ap₂, refl, ℕ, zero, suc, Bool, List, [], ◌∷◌, length, map, Option, Some, None, Result}
 use Rattle.std.specs.Prelude.{◌+◌, ◌&&◌, nat_lt, not, slice_set, if◌then◌else◌}
 use Rattle.std.specs.List.{list_any, range_with_len, sum_by}
-use Rattle.map_method.specs.declared.spread.Spread.{Spread}
+use Rattle.map_method.specs.declared.drawing_plan.DrawingPlan.{DrawingPlan}
 use Rattle.map_base.specs.declared.ids.SegId.{SegId}
 use Rattle.graph_core.specs.declared.parts.GraphParts.{GraphParts}
 use Rattle.graph_core.specs.declared.parts.NodeKind.{NodeKind}
@@ -53,20 +53,19 @@ module _ (g : GraphParts) (kinds : List NodeKind) where
   same_again : (segs : List SegId) (r : Routed) → routed_again other segs r ≡ routed_again g segs r
   same_again segs r = ap (λ (o : Result Routed SegId). if_routed (walks_of o)) (same_each segs r)
 
-  pub same_routes : (cell : ℕ) (spread : Spread) (finest : ℕ)
-      → route_outcome other cell spread finest ≡ route_outcome g cell spread finest
-  same_routes cell spread finest =
-      ap (outcome_under (limit_of g.places cell))
+  pub same_routes : (plan : DrawingPlan) → route_outcome other plan ≡ route_outcome g plan
+  same_routes plan =
+      ap (outcome_under (limit_of g.places plan.cell))
       (by_list (λ attempts. (before : Result (List PlainWalk) SegId)
-      → first_drawn other cell before attempts ≡ first_drawn g cell before attempts)
+      → first_drawn other plan.cell before attempts ≡ first_drawn g plan.cell before attempts)
       (λ before. refl)
       (λ a attempts later before.
-      let placing : Placing = placing_at g cell a.fineness (spread_offsets g.places a.percent) in
+      let placing : Placing = placing_at g plan.cell a.fineness (spread_offsets g.places a.percent) in
       ap (or_else before)
-      (ap (λ (r : Result (List PlainWalk) SegId). first_drawn other cell r attempts)
+      (ap (λ (r : Result (List PlainWalk) SegId). first_drawn other plan.cell r attempts)
       (ap walks_of (same_each (routing_order g.lines) (begun g placing)))
-      ∙ later (routes_at g cell a)))
-      (attempts_of spread finest) nothing_drawn)
+      ∙ later (routes_at g plan.cell a)))
+      (attempts_of plan) nothing_drawn)
 
 module _ (g : GraphParts) (kinds : List NodeKind) (count : length kinds ≡ length g.kinds) where
   abbrev h : GraphParts

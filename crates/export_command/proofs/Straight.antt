@@ -4,7 +4,7 @@ use Rattle.std.specs.Prelude.{◌+◌, ◌&&◌, ◌++◌, nat_le, not, filter, 
 use Rattle.std.specs.List.{flat_map, list_any, range_with_len, sum_by}
 use Rattle.map_base.specs.declared.ids.NodeId.{NodeId}
 use Rattle.map_base.specs.declared.ids.SegId.{SegId}
-use Rattle.map_method.specs.declared.spread.Spread.{Spread}
+use Rattle.map_method.specs.declared.drawing_plan.DrawingPlan.{DrawingPlan}
 use Rattle.graph_core.specs.declared.parts.GraphParts.{GraphParts}
 use Rattle.graph_core.specs.declared.parts.NodeKind.{NodeKind}
 use Rattle.octi_grid.specs.Walks.{PlainWalk, points_of}
@@ -156,8 +156,7 @@ module _ (g : GraphParts) (kinds : List NodeKind) (count : length kinds ≡ leng
   same_straightened cell straight (Err stop) = refl
 
   -- the drawing is the same
-  pub same_drawing : (cell : ℕ) (spread : Spread) (finest straight : ℕ)
-      → drawing_outcome h cell spread finest straight ≡ drawing_outcome g cell spread finest straight
-  same_drawing cell spread finest straight =
-      ap (straightened_routes h cell straight) (same_routes g kinds cell spread finest)
-      ∙ same_straightened cell straight (route_outcome g cell spread finest)
+  pub same_drawing : (plan : DrawingPlan) → drawing_outcome h plan ≡ drawing_outcome g plan
+  same_drawing plan =
+      ap (straightened_routes h plan.cell plan.straight) (same_routes g kinds plan)
+      ∙ same_straightened plan.cell plan.straight (route_outcome g plan)

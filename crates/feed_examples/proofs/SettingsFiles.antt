@@ -1,9 +1,12 @@
 -- What settings files make, at small ones.
 use Rattle.std.proofs.Common.{◌≡◌, ℕ, ◌++◌, Bool, true, false, List, [], ◌∷◌, Result, Ok, Err, is_ok, map, replicate, codes, refl}
 use Rattle.std.specs.List.{flat_map}
+use Rattle.std.specs.Str.{is_utf8, chars}
+use lib.Utf8.{encode}
 use Rattle.toml.specs.Parse.{parse_document}
 use Rattle.toml.proofs.OnLiterals.{toml_on_literals}
 use Rattle.map_base.specs.Settings.{standard_choices}
+use Rattle.map_method.specs.declared.defaults.Defaults.{Defaults}
 use Rattle.map_method.specs.declared.defaults.Defaults.TheVariants.{Make, Map}
 use Rattle.map_method.specs.declared.map_settings.MapSettings.{MapSettings}
 use Rattle.map_method.specs.declared.search.Search.TheVariants.{Live, Dual}
@@ -13,10 +16,10 @@ use Rattle.map_method.specs.Defaults.{default_choices}
 use Rattle.map_method.specs.Methods.{MethodChoices}
 use Rattle.map_settings.specs.declared.fault.SettingsWhy.{SettingsWhy}
 use Rattle.map_settings.specs.declared.fault.SettingsWhy.TheVariants.{NotToml, Key}
-use Rattle.map_settings.specs.Outcome.{with_table}
+use Rattle.map_settings.specs.Outcome.{texts_outcome, with_table}
 
-abbrev near_and_method : MethodChoices → MapSettings
-near_and_method method = record { settings = record standard_choices { near = 20 }; method = method }
+abbrev near_and_method : Defaults → MethodChoices → MapSettings
+near_and_method defaults method = record { settings = record standard_choices { near = 20 }; method = method; defaults = defaults }
 
 of_nothing : with_table (default_choices Make) (parse_document (codes "")) ≡ Ok (default_choices Make)
 unfolding toml_on_literals
@@ -24,28 +27,28 @@ of_nothing = refl
 
 -- a key leaves the other defaults as they are
 least_near : with_table (default_choices Make) (parse_document (codes "near = 20\n"))
-    ≡ Ok (near_and_method (record { search = Live; claim = Best; spread = Percent 0; finest = 4; straight = 0; moves = 0 }))
+    ≡ Ok (near_and_method Make (record { search = Live; claim = Best; spread = Percent 0; coarsest = 1; finest = 4; straight = 0; moves = 0 }))
 unfolding toml_on_literals
 least_near = refl
 
 of_map : with_table (default_choices Map) (parse_document (codes "budget = 20000\nnear = 20\nfinest = 8\n"))
-    ≡ Ok (near_and_method (record { search = Dual; claim = Best; spread = Auto; finest = 8; straight = 1000; moves = 0 }))
+    ≡ Ok (near_and_method Map (record { search = Dual; claim = Best; spread = Auto; coarsest = 1; finest = 8; straight = 1000; moves = 0 }))
 unfolding toml_on_literals
 of_map = refl
 
 -- moves leave the straightening of a map as it is, and a map that isn't straightened is not moved by itself
 map_with_moves : with_table (default_choices Map) (parse_document (codes "budget = 20000\nnear = 20\nfinest = 8\nmoves = 7\n"))
-    ≡ Ok (near_and_method (record { search = Dual; claim = Best; spread = Auto; finest = 8; straight = 1000; moves = 7 }))
+    ≡ Ok (near_and_method Map (record { search = Dual; claim = Best; spread = Auto; coarsest = 1; finest = 8; straight = 1000; moves = 7 }))
 unfolding toml_on_literals
 map_with_moves = refl
 
 not_straight : with_table (default_choices Map) (parse_document (codes "budget = 20000\nnear = 20\nfinest = 8\nstraight = 0\n"))
-    ≡ Ok (near_and_method (record { search = Dual; claim = Best; spread = Auto; finest = 8; straight = 0; moves = 0 }))
+    ≡ Ok (near_and_method Map (record { search = Dual; claim = Best; spread = Auto; coarsest = 1; finest = 8; straight = 0; moves = 0 }))
 unfolding toml_on_literals
 not_straight = refl
 
 of_method : with_table (default_choices Make) (parse_document (codes "search = \"dual\"\nspread = \"auto\"\nnear = 20\nfinest = 8\n"))
-    ≡ Ok (near_and_method (record { search = Dual; claim = Best; spread = Auto; finest = 8; straight = 0; moves = 0 }))
+    ≡ Ok (near_and_method Make (record { search = Dual; claim = Best; spread = Auto; coarsest = 1; finest = 8; straight = 0; moves = 0 }))
 unfolding toml_on_literals
 of_method = refl
 
@@ -67,7 +70,7 @@ unfolding toml_on_literals
 spread_too_far = refl
 
 live_search : with_table (default_choices Map) (parse_document (codes "search = \"live\"\nbudget = 20000\nnear = 20\nspread = 0\nfinest = 4\n"))
-    ≡ Ok (near_and_method (record { search = Live; claim = Best; spread = Percent 0; finest = 4; straight = 1000; moves = 0 }))
+    ≡ Ok (near_and_method Map (record { search = Live; claim = Best; spread = Percent 0; coarsest = 1; finest = 4; straight = 1000; moves = 0 }))
 unfolding toml_on_literals
 live_search = refl
 
@@ -77,12 +80,12 @@ other_search = refl
 
 -- a bound is asked for beside any search
 bound_alone : with_table (default_choices Make) (parse_document (codes "near = 20\nproof = \"bound\"\n"))
-    ≡ Ok (near_and_method (record { search = Live; claim = Bound; spread = Percent 0; finest = 4; straight = 0; moves = 0 }))
+    ≡ Ok (near_and_method Make (record { search = Live; claim = Bound; spread = Percent 0; coarsest = 1; finest = 4; straight = 0; moves = 0 }))
 unfolding toml_on_literals
 bound_alone = refl
 
 best_in_words : with_table (default_choices Make) (parse_document (codes "near = 20\nproof = \"best\"\n"))
-    ≡ Ok (near_and_method (record { search = Live; claim = Best; spread = Percent 0; finest = 4; straight = 0; moves = 0 }))
+    ≡ Ok (near_and_method Make (record { search = Live; claim = Best; spread = Percent 0; coarsest = 1; finest = 4; straight = 0; moves = 0 }))
 unfolding toml_on_literals
 best_in_words = refl
 
@@ -91,12 +94,12 @@ unfolding toml_on_literals
 other_claim = refl
 
 most_moves : with_table (default_choices Make) (parse_document (codes "near = 20\nmoves = 10000\n"))
-    ≡ Ok (near_and_method (record { search = Live; claim = Best; spread = Percent 0; finest = 4; straight = 0; moves = 10000 }))
+    ≡ Ok (near_and_method Make (record { search = Live; claim = Best; spread = Percent 0; coarsest = 1; finest = 4; straight = 0; moves = 10000 }))
 unfolding toml_on_literals
 most_moves = refl
 
 most_straight : with_table (default_choices Make) (parse_document (codes "near = 20\nstraight = 10000\n"))
-    ≡ Ok (near_and_method (record { search = Live; claim = Best; spread = Percent 0; finest = 4; straight = 10000; moves = 0 }))
+    ≡ Ok (near_and_method Make (record { search = Live; claim = Best; spread = Percent 0; coarsest = 1; finest = 4; straight = 10000; moves = 0 }))
 unfolding toml_on_literals
 most_straight = refl
 
@@ -111,6 +114,47 @@ too_many_moves = refl
 no_grid_between : with_table (default_choices Map) (parse_document (codes "finest = 12\n")) ≡ Err (Key (codes "finest"))
 unfolding toml_on_literals
 no_grid_between = refl
+
+grid_too_coarse : with_table (default_choices Make) (parse_document (codes "coarsest = 0\n")) ≡ Err (Key (codes "coarsest"))
+unfolding toml_on_literals
+grid_too_coarse = refl
+
+no_coarsest_between : with_table (default_choices Map) (parse_document (codes "coarsest = 3\n")) ≡ Err (Key (codes "coarsest"))
+unfolding toml_on_literals
+no_coarsest_between = refl
+
+grid_too_fine : with_table (default_choices Make) (parse_document (codes "coarsest = 8\n")) ≡ Err (Key (codes "coarsest"))
+unfolding toml_on_literals
+grid_too_fine = refl
+
+grid_in_words : with_table (default_choices Make) (parse_document (codes "coarsest = \"2\"\n")) ≡ Err (Key (codes "coarsest"))
+unfolding toml_on_literals
+grid_in_words = refl
+
+-- the key `method` names whose settings hold where keys are missing, and changes nothing else
+names_map : with_table (default_choices Make) (parse_document (codes "near = 20\nmethod = \"map\"\n"))
+    ≡ Ok (near_and_method Map (record { search = Live; claim = Best; spread = Percent 0; coarsest = 1; finest = 4; straight = 0; moves = 0 }))
+unfolding toml_on_literals
+names_map = refl
+
+no_method : with_table (default_choices Make) (parse_document (codes "method = \"poster\"\n")) ≡ Err (Key (codes "method"))
+unfolding toml_on_literals
+no_method = refl
+
+method_by_number : with_table (default_choices Map) (parse_document (codes "method = 1\n")) ≡ Err (Key (codes "method"))
+unfolding toml_on_literals
+method_by_number = refl
+
+-- what the defaults of `map` are where `make` reads, and the other way round; a key of an earlier text stays
+make_as_map : texts_outcome Make (codes "budget = 20000\nmethod = \"map\"\nnear = 20\n" ∷ codes "moves = 7\n" ∷ [])
+    ≡ Ok (near_and_method Map (record { search = Dual; claim = Best; spread = Auto; coarsest = 1; finest = 16; straight = 1000; moves = 7 }))
+unfolding toml_on_literals is_utf8 chars encode
+make_as_map = refl
+
+map_as_make : texts_outcome Map (codes "method = \"map\"\nnear = 20\n" ∷ codes "method = \"make\"\n" ∷ [])
+    ≡ Ok (near_and_method Make (record { search = Live; claim = Best; spread = Percent 0; coarsest = 1; finest = 4; straight = 0; moves = 0 }))
+unfolding toml_on_literals is_utf8 chars encode
+map_as_make = refl
 
 -- the least key by its bytes, wherever it stands
 least_bad_key : with_table (default_choices Make) (parse_document (codes "spread = \"all\"\nnear = 1\nfinest = 5\n")) ≡ Err (Key (codes "finest"))
@@ -136,8 +180,8 @@ too_important : told (codes "importance = { B = 17 }\n") ≡ Err (Key (codes "im
 unfolding toml_on_literals
 too_important = refl
 
-every_method : told (codes "near = 20\nsearch = \"dual\"\nproof = \"bound\"\nspread = 35\nfinest = 16\nstraight = 5\nmoves = 7\n")
-    ≡ Ok (near_and_method (record { search = Dual; claim = Bound; spread = Percent 35; finest = 16; straight = 5; moves = 7 }))
+every_method : told (codes "near = 20\nsearch = \"dual\"\nproof = \"bound\"\nspread = 35\ncoarsest = 4\nfinest = 16\nstraight = 5\nmoves = 7\n")
+    ≡ Ok (near_and_method Make (record { search = Dual; claim = Bound; spread = Percent 35; coarsest = 4; finest = 16; straight = 5; moves = 7 }))
 unfolding toml_on_literals
 every_method = refl
 

@@ -11,7 +11,7 @@ use Rattle.order_terms.specs.Limits.{graph_problem}
 use Rattle.kept_trees.specs.declared.plan.SearchPlan.{SearchPlan}
 use Rattle.map_faults.specs.declared.fault.MakeFault.{MakeFault}
 use Rattle.graph_maps.specs.Subjects.{Subject}
-use Rattle.graph_maps.specs.Problems.{Drawn, drawn_with, drawn_on, routed_by, untangled_problem}
+use Rattle.graph_maps.specs.Problems.{Drawn, drawing_plan, drawn_with, drawn_on, routed_by, untangled_problem}
 use Rattle.graph_maps.specs.Solving.{solve_outcome}
 use Rattle.graph_maps.specs.Making.{if_solved, made_on, solved_map, solved_of, solved_with}
 
@@ -37,9 +37,9 @@ pub made_the_same : (subject : Subject) (some other : Choices) (method : MethodC
     → made_on subject some method graph ≡ made_on subject other method graph
 made_the_same subject some other method graph weights cell budget =
     let drawn : drawn_on subject.importance some method graph ≡ drawn_on subject.importance other method graph =
-    ap (λ (n : ℕ). routed_by subject.importance some graph (drawing_outcome graph n method.spread method.finest method.straight)) cell
+    ap (λ (n : ℕ). routed_by subject.importance some graph (drawing_outcome graph (record (drawing_plan some method) { cell = n }))) cell
     ∙ routed_alike subject.importance some other graph
-    (drawing_outcome graph other.cell method.spread method.finest method.straight) weights in
+    (drawing_outcome graph (drawing_plan other method)) weights in
     ap (λ (o : Result Drawn MakeFault). if_solved (solved_map subject) (solved_of some method o)) drawn
     ∙ ap (if_solved (solved_map subject))
     (solved_alike some other method (drawn_on subject.importance other method graph) budget)

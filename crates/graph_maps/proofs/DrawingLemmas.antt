@@ -14,12 +14,12 @@ use Rattle.kept_walks.specs.Drawings.{drawing_outcome}
 use Rattle.segment_router.specs.Routing as routing
 use Rattle.order_model.specs.declared.problem.ProblemParts.{ProblemParts}
 use Rattle.map_faults.specs.Faults.{of_limit, of_route}
-use Rattle.graph_maps.specs.Problems.{Drawn, drawn_with, routed_by, drawn_on, problem_within}
+use Rattle.graph_maps.specs.Problems.{Drawn, drawing_plan, drawn_with, routed_by, drawn_on, problem_within}
 use Rattle.graph_maps.specs.Making.{HasCause}
 
 -- no route refuses it
 pub not_routed : (importance : List ℕ) (choices : Choices) (method : MethodChoices) (parts : GraphParts)
-    (stop : RouteFault) → routing.HasCause (drawing_outcome parts choices.cell method.spread method.finest method.straight) stop
+    (stop : RouteFault) → routing.HasCause (drawing_outcome parts (drawing_plan choices method)) stop
     → HasCause (drawn_on importance choices method parts) (of_route stop)
 not_routed importance choices method parts route.NoMemory h = tt
 not_routed importance choices method parts stop h = ap (routed_by importance choices parts) h
@@ -27,7 +27,7 @@ not_routed importance choices method parts stop h = ap (routed_by importance cho
 -- too many terms refuse it
 pub not_counted : (importance : List ℕ) (choices : Choices) (method : MethodChoices) (parts : GraphParts)
     (walks : List PlainWalk) (stop : LimitFault)
-    → drawing_outcome parts choices.cell method.spread method.finest method.straight ≡ Ok walks
+    → drawing_outcome parts (drawing_plan choices method) ≡ Ok walks
     → limits.HasCause (problem_within importance choices parts) stop
     → HasCause (drawn_on importance choices method parts) (of_limit stop)
 not_counted importance choices method parts walks (limit.Limit l) routed h = ap
@@ -37,7 +37,7 @@ not_counted importance choices method parts walks limit.NoMemory routed h = tt
 -- else there is the drawing
 pub drawn_is : (importance : List ℕ) (choices : Choices) (method : MethodChoices) (parts : GraphParts)
     (walks : List PlainWalk) (problem : ProblemParts)
-    → drawing_outcome parts choices.cell method.spread method.finest method.straight ≡ Ok walks
+    → drawing_outcome parts (drawing_plan choices method) ≡ Ok walks
     → problem_within importance choices parts ≡ Ok problem
     → drawn_on importance choices method parts ≡ Ok (record { graph = parts; walks = walks; problem = problem })
 drawn_is importance choices method parts walks problem routed counted = ap (routed_by importance choices parts) routed
@@ -61,10 +61,10 @@ there_by importance choices parts (Err stop) x h = cc
 pub graph_there : (importance : List ℕ) (choices : Choices) (method : MethodChoices) (graph : GraphParts) (x : Drawn)
     → drawn_on importance choices method graph ≡ Ok x → graph ≡ x.graph
 graph_there importance choices method graph x h =
-    (there_by importance choices graph (drawing_outcome graph choices.cell method.spread method.finest method.straight) x h).0
+    (there_by importance choices graph (drawing_outcome graph (drawing_plan choices method)) x h).0
 
 pub problem_there : (importance : List ℕ) (choices : Choices) (method : MethodChoices) (graph : GraphParts) (x : Drawn)
     → drawn_on importance choices method graph ≡ Ok x → problem_within importance choices x.graph ≡ Ok x.problem
 problem_there importance choices method graph x h =
-    let both = there_by importance choices graph (drawing_outcome graph choices.cell method.spread method.finest method.straight) x h in
+    let both = there_by importance choices graph (drawing_outcome graph (drawing_plan choices method)) x h in
     subst (λ (g : GraphParts). problem_within importance choices g ≡ Ok x.problem) both.0 both.1

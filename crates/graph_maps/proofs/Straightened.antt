@@ -9,7 +9,7 @@ use Rattle.segment_router.specs.declared.fault.RouteFault.{RouteFault}
 use Rattle.segment_router.specs.Routing.{route_outcome}
 use Rattle.order_model.specs.declared.problem.ProblemParts.{ProblemParts}
 use Rattle.kept_walks.specs.Drawings.{straightened_routes, straightened_walks}
-use Rattle.graph_maps.specs.Problems.{drawn_on, drawn_with, problem_within, routed_by, straightened_drawing}
+use Rattle.graph_maps.specs.Problems.{drawing_plan, drawn_on, drawn_with, problem_within, routed_by, straightened_drawing}
 
 module _ (importance : List ℕ) (choices : Choices) (method : MethodChoices) (graph : GraphParts) where
   by_problem : (walks : List PlainWalk) (o : Result ProblemParts Limit)
@@ -26,4 +26,4 @@ module _ (importance : List ℕ) (choices : Choices) (method : MethodChoices) (g
 
   pub drawn_straight : drawn_on importance choices method graph
       ≡ straightened_drawing choices method (drawn_on importance choices (record method { straight = 0 }) graph)
-  drawn_straight = by_routes (route_outcome graph choices.cell method.spread method.finest)
+  drawn_straight = by_routes (route_outcome graph (drawing_plan choices method))

@@ -2,6 +2,7 @@
 use Rattle.std.specs.Prelude.{ℕ, List, Result, Ok, Err}
 use Rattle.map_base.specs.declared.limit.Limit.{Limit}
 use Rattle.map_base.specs.Settings.{Choices}
+use Rattle.map_method.specs.declared.drawing_plan.DrawingPlan.{DrawingPlan}
 use Rattle.map_method.specs.Methods.{MethodChoices}
 use Rattle.graph_core.specs.declared.parts.GraphParts.{GraphParts}
 use Rattle.octi_grid.specs.Walks.{PlainWalk}
@@ -52,10 +53,20 @@ abbrev pub routed_by : List ℕ → Choices → GraphParts → Result (List Plai
 routed_by importance choices graph (Ok walks) = drawn_with graph walks (problem_within importance choices graph)
 routed_by importance choices graph (Err stop) = Err (of_route stop)
 
+-- how line graphs are drawn by settings
+abbrev pub drawing_plan : Choices → MethodChoices → DrawingPlan
+drawing_plan choices method = record {
+  cell = choices.cell;
+  spread = method.spread;
+  coarsest = method.coarsest;
+  finest = method.finest;
+  straight = method.straight;
+}
+
 -- The drawing of a line graph and the problem of its line orders: its walks come first, then its terms are counted.
 abbrev pub drawn_on : List ℕ → Choices → MethodChoices → GraphParts → Result Drawn MakeFault
 drawn_on importance choices method graph = routed_by importance choices graph
-    (drawing_outcome graph choices.cell method.spread method.finest method.straight)
+    (drawing_outcome graph (drawing_plan choices method))
 
 -- a drawing after straightening, as the method says; its line graph and its problem stay
 abbrev pub straightened_drawing : Choices → MethodChoices → Result Drawn MakeFault → Result Drawn MakeFault

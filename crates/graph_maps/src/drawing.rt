@@ -6,7 +6,8 @@ ghost use Rattle.order_model.specs.Problems.{IsProblem};
 ghost use Rattle.octi_grid.specs.Walks.{IsWalk};
 ghost use Rattle.grid_board.specs.Points.{are_near};
 ghost use Rattle.graph_maps.specs.Subjects.{AreListed};
-ghost use Rattle.graph_maps.specs.Problems.{drawn_on, problem_of};
+ghost use Rattle.map_method.specs.Methods.{IsSpread};
+ghost use Rattle.graph_maps.specs.Problems.{drawing_plan, drawn_on, problem_of};
 ghost use Rattle.graph_maps.specs.Making.{Gives};
 ghost use Rattle.graph_maps.specs.Stages.{drawn_of, IsDrawing};
 
@@ -14,7 +15,7 @@ use graph_core::LineGraph;
 use kept_walks::KeptWalks;
 use map_base::Settings;
 use map_faults::MakeFault;
-use map_method::Method;
+use map_method::{DrawingPlan, Method};
 use octi_grid::{Drawing, Walk, illegal_drawings_have_a_first_walk};
 use order_model::Problem;
 use order_terms::terms_of;
@@ -39,18 +40,25 @@ pub(crate) fn drawn_map(
     ensures problem_fits { IfOk result (λ d. IsProblem d.1) }
 {
     let _nodes = graph.nodes();
-    let drawing = last.draw(
-        alloc,
-        graph,
-        settings.cell,
-        method.spread,
-        method.finest,
-        method.straight,
-    )?;
+    let drawing = last.draw(alloc, graph, drawing_plan(settings, method))?;
     are_walks(drawing.walks.as_slice());
     illegal_drawings_have_a_first_walk();
     let problem = terms_of(alloc, graph, &settings.weights, importance)?;
     Ok((drawing, problem))
+}
+
+/// How a line graph is drawn.
+fn drawing_plan(settings: &Settings, method: &Method) -> DrawingPlan
+    ensures plan { result ≡ drawing_plan settings.now method.now }
+    ensures spread { IsSpread result.spread }
+{
+    DrawingPlan {
+        cell: settings.cell,
+        spread: method.spread,
+        coarsest: method.coarsest,
+        finest: method.finest,
+        straight: method.straight,
+    }
 }
 
 /// What the type of walks keeps, of each of these: it has a step, and its points lie within 10,000 either way.

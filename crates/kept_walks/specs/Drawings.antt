@@ -1,6 +1,6 @@
 -- The drawing of a line graph before any moves, and how it is kept.
 use Rattle.std.specs.Prelude.{◌≡◌, ℕ, List, length, true, Result, Ok, Err}
-use Rattle.map_method.specs.declared.spread.Spread.{Spread}
+use Rattle.map_method.specs.declared.drawing_plan.DrawingPlan.{DrawingPlan}
 use Rattle.graph_core.specs.declared.parts.GraphParts.{GraphParts}
 use Rattle.octi_grid.specs.Walks.{PlainWalk}
 use Rattle.octi_grid.specs.Legal.{legal}
@@ -19,15 +19,14 @@ abbrev pub straightened_routes : GraphParts → ℕ → ℕ → Result (List Pla
 straightened_routes graph cell straight (Ok routes) = Ok (straightened_walks graph cell straight routes)
 straightened_routes graph cell straight (Err stop) = Err stop
 
--- The drawing of a line graph: its routes on cells of a side, of a spread and a finest grid, and then straightened by at
--- most so many improving attempts. There is none exactly where there are no routes.
-abbrev pub drawing_outcome : GraphParts → ℕ → Spread → ℕ → ℕ → Result (List PlainWalk) RouteFault
-drawing_outcome graph cell spread finest straight =
-    straightened_routes graph cell straight (route_outcome graph cell spread finest)
+-- The drawing of a line graph by a plan: its routes, and then straightened by at most so many improving attempts. There is
+-- none exactly where there are no routes.
+abbrev pub drawing_outcome : GraphParts → DrawingPlan → Result (List PlainWalk) RouteFault
+drawing_outcome graph plan = straightened_routes graph plan.cell plan.straight (route_outcome graph plan)
 
 -- walks are the drawing of a line graph: a legal one, near the origin
-pub record AreDrawn (graph : GraphParts) (cell : ℕ) (spread : Spread) (finest straight : ℕ) (walks : List PlainWalk) : Type 0 where
-  pub drawn : drawing_outcome graph cell spread finest straight ≡ Ok walks
+pub record AreDrawn (graph : GraphParts) (plan : DrawingPlan) (walks : List PlainWalk) : Type 0 where
+  pub drawn : drawing_outcome graph plan ≡ Ok walks
   pub legal : legal graph walks ≡ true
   pub each : length walks ≡ length graph.ends
   pub near : are_near 1820 walks ≡ true

@@ -13,7 +13,7 @@ use crate::same_graphs::are_same_graphs;
 use crate::straightening::straighten;
 use graph_core::LineGraph;
 use map_base::NoMemory;
-use map_method::Spread;
+use map_method::DrawingPlan;
 use octi_grid::Drawing;
 use segment_router::{RouteFault, route};
 use start_positions::side_over;
@@ -24,10 +24,7 @@ use std::marker::Model;
 #[derive(Drop)]
 struct DrawnGraph {
     graph: LineGraph,
-    cell: u32,
-    spread: Spread,
-    finest: u32,
-    straight: u32,
+    plan: DrawingPlan,
     drawing: Drawing,
 }
 
@@ -40,7 +37,7 @@ impl Model for DrawnGraph {
 
     ghost view = { λ r. r.drawing.walks };
 
-    ghost invariant = { λ r. AreDrawn r.graph r.cell r.spread r.finest r.straight r.drawing.walks };
+    ghost invariant = { λ r. AreDrawn r.graph r.plan r.drawing.walks };
 }
 
 impl DrawnGraph {
@@ -49,17 +46,11 @@ impl DrawnGraph {
         &self,
         alloc: Global,
         graph: &LineGraph,
-        cell: u32,
-        spread: Spread,
-        finest: u32,
-        straight: u32,
+        plan: DrawingPlan,
     ) -> Result<Option<Drawing>, NoMemory>
-        ensures { IfOk result (λ found. IfSome found (λ d. AreDrawn graph.now cell spread finest straight d.walks)) }
+        ensures { IfOk result (λ found. IfSome found (λ d. AreDrawn graph.now plan d.walks)) }
     {
-        if self.cell != cell || self.spread != spread {
-            return Ok(None);
-        }
-        if self.finest != finest || self.straight != straight {
+        if self.plan != plan {
             return Ok(None);
         }
         if !are_same_graphs(&self.graph, graph) {
@@ -93,31 +84,27 @@ impl KeptWalks {
         }
     }
 
-    /// The drawing of a line graph: its routes, as `route` of segment_router gives them, straightened by at most so many
-    /// improving attempts. That which was made last is taken, where the line graph, the cells, the spreading, the finest grid
-    /// and the attempts are the same.
+    /// The drawing of a line graph by a plan: its routes, as `route` of segment_router gives them, straightened. That which was
+    /// made last is taken, where the line graph and the plan are the same.
     pub fn draw(
         &mut self,
         alloc: Global,
         graph: &LineGraph,
-        cell: u32,
-        spread: Spread,
-        finest: u32,
-        straight: u32,
+        plan: DrawingPlan,
     ) -> Result<Drawing, RouteFault>
-        requires { IsSpread spread }
-        ensures drawing { IfOk result (λ d. drawing_outcome graph.now cell spread finest straight ≡ Ok d.walks) }
-        ensures cause { IfErr result (λ fault. HasCause (drawing_outcome graph.now cell spread finest straight) fault) }
+        requires { IsSpread plan.spread }
+        ensures drawing { IfOk result (λ d. drawing_outcome graph.now plan ≡ Ok d.walks) }
+        ensures cause { IfErr result (λ fault. HasCause (drawing_outcome graph.now plan) fault) }
         ensures legal { IfOk result (λ d. legal graph.now d.walks ≡ true) }
         ensures each { IfOk result (λ d. length d.walks ≡ length graph.now.ends) }
         ensures near { IfOk result (λ d. are_near 1820 d.walks ≡ true) }
     {
-        if let Some(drawing) = self.find(alloc, graph, cell, spread, finest, straight)? {
+        if let Some(drawing) = self.find(alloc, graph, plan)? {
             return Ok(drawing);
         }
-        let drawing = drawn(alloc, graph, cell, spread, finest, straight)?;
+        let drawing = drawn(alloc, graph, plan)?;
         if self.keeps {
-            self.keep(alloc, graph, cell, spread, finest, straight, &drawing)?;
+            self.keep(alloc, graph, plan, &drawing)?;
         }
         Ok(drawing)
     }
@@ -127,15 +114,12 @@ impl KeptWalks {
         &self,
         alloc: Global,
         graph: &LineGraph,
-        cell: u32,
-        spread: Spread,
-        finest: u32,
-        straight: u32,
+        plan: DrawingPlan,
     ) -> Result<Option<Drawing>, NoMemory>
-        ensures { IfOk result (λ found. IfSome found (λ d. AreDrawn graph.now cell spread finest straight d.walks)) }
+        ensures { IfOk result (λ found. IfSome found (λ d. AreDrawn graph.now plan d.walks)) }
     {
         match &self.last {
-            Some(last) => last.drawing_for(alloc, graph, cell, spread, finest, straight),
+            Some(last) => last.drawing_for(alloc, graph, plan),
             None => Ok(None),
         }
     }
@@ -145,22 +129,16 @@ impl KeptWalks {
         &mut self,
         alloc: Global,
         graph: &LineGraph,
-        cell: u32,
-        spread: Spread,
-        finest: u32,
-        straight: u32,
+        plan: DrawingPlan,
         drawing: &Drawing,
     ) -> Result<(), NoMemory>
-        requires { AreDrawn graph.now cell spread finest straight drawing.now.walks }
+        requires { AreDrawn graph.now plan drawing.now.walks }
     {
         let graph = copy_of_graph(alloc, graph)?;
         let drawing = copy_of_drawing(alloc, drawing)?;
         self.last = Some(DrawnGraph {
             graph,
-            cell,
-            spread,
-            finest,
-            straight,
+            plan,
             drawing,
         });
         Ok(())
@@ -168,20 +146,13 @@ impl KeptWalks {
 }
 
 /// The drawing of a line graph, whatever is kept.
-fn drawn(
-    alloc: Global,
-    graph: &LineGraph,
-    cell: u32,
-    spread: Spread,
-    finest: u32,
-    straight: u32,
-) -> Result<Drawing, RouteFault>
-    requires { IsSpread spread }
-    ensures drawn { IfOk result (λ d. AreDrawn graph.now cell spread finest straight d.walks) }
-    ensures cause { IfErr result (λ fault. HasCause (drawing_outcome graph.now cell spread finest straight) fault) }
+fn drawn(alloc: Global, graph: &LineGraph, plan: DrawingPlan) -> Result<Drawing, RouteFault>
+    requires { IsSpread plan.spread }
+    ensures drawn { IfOk result (λ d. AreDrawn graph.now plan d.walks) }
+    ensures cause { IfErr result (λ fault. HasCause (drawing_outcome graph.now plan) fault) }
 {
-    let routes = route(alloc, graph, cell, spread, finest)?;
-    let drawing = straightened(alloc, graph, routes, cell, straight)?;
+    let routes = route(alloc, graph, plan)?;
+    let drawing = straightened(alloc, graph, routes, plan.cell, plan.straight)?;
     Ok(drawing)
 }
 

@@ -5,9 +5,8 @@
 //! with the chains that end at them, and nodes with their segments, as long as that makes the drawing lighter. What is
 //! made is legal, and weighs no more than what was there before.
 //!
-//! The drawing that was made last is taken again where nothing changed on which it depends: the line graph, the cells,
-//! how nodes are spread, the finest grid and how many attempts may straighten it. What is taken again is what would be
-//! drawn anew, so nothing that is kept shows in an answer.
+//! The drawing that was made last is taken again where nothing changed on which it depends: the line graph and the plan,
+//! which says how it is drawn. What is taken again is what would be drawn anew, so nothing that is kept shows in an answer.
 #![tactic(auto)]
 
 mod copies;

@@ -11,8 +11,8 @@ use Rattle.map_method.specs.Methods.{MethodChoices}
 
 -- the method of `make`, and the one of `map`
 abbrev pub method_of : Defaults → MethodChoices
-method_of Make = record { search = Live; claim = Best; spread = Percent 0; finest = 4; straight = 0; moves = 0 }
-method_of Map = record { search = Dual; claim = Best; spread = Auto; finest = 16; straight = 1000; moves = 0 }
+method_of Make = record { search = Live; claim = Best; spread = Percent 0; coarsest = 1; finest = 4; straight = 0; moves = 0 }
+method_of Map = record { search = Dual; claim = Best; spread = Auto; coarsest = 1; finest = 16; straight = 1000; moves = 0 }
 
 -- how many branch nodes the search for the orders of one part may have
 abbrev pub budget_of : Defaults → ℕ
@@ -25,4 +25,4 @@ settings_of defaults = record standard_choices { budget = budget_of defaults }
 
 -- all settings that hold where a user sets none
 abbrev pub default_choices : Defaults → MapSettings
-default_choices defaults = record { settings = settings_of defaults; method = method_of defaults }
+default_choices defaults = record { settings = settings_of defaults; method = method_of defaults; defaults = defaults }

@@ -5,6 +5,7 @@
 
 mod claim;
 mod defaults;
+mod drawing_plan;
 mod map_settings;
 mod method;
 mod search;
@@ -12,6 +13,7 @@ mod spread;
 
 pub use claim::Claim;
 pub use defaults::Defaults;
+pub use drawing_plan::DrawingPlan;
 pub use map_settings::MapSettings;
 pub use method::Method;
 pub use search::Search;

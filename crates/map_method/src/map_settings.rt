@@ -8,11 +8,12 @@ use crate::method::Method;
 use map_base::{NoMemory, Settings};
 use std::alloc::Global;
 
-/// The settings of a map, and how it is found.
+/// The settings of a map, how it is found, and the settings that hold where a user sets none.
 #[derive(Debug, Drop)]
 pub struct MapSettings {
     pub settings: Settings,
     pub method: Method,
+    pub defaults: Defaults,
 }
 
 impl MapSettings {
@@ -23,6 +24,7 @@ impl MapSettings {
         Ok(MapSettings {
             settings: defaults.settings(alloc)?,
             method: defaults.method(),
+            defaults,
         })
     }
 }

@@ -14,7 +14,9 @@ pub struct Method {
     pub claim: Claim,
     /// How far nodes are spread before they get their homes.
     pub spread: Spread,
-    /// How fine the finest grid is on which a drawing is tried: 4, 8 or 16 times as fine as the first one.
+    /// How fine the first grid is on which a drawing is tried: 1, 2 or 4 times as fine as the cells.
+    pub coarsest: u32,
+    /// How fine the last grid is on which a drawing is tried: 4, 8 or 16 times as fine as the cells.
     pub finest: u32,
     /// How many improving attempts may straighten the routes: at most 10,000.
     pub straight: u32,
@@ -27,7 +29,7 @@ impl Model for Method {
 
     ghost Value = { MethodChoices };
 
-    ghost view = { λ m. record { search = m.search; claim = m.claim; spread = m.spread; finest = m.finest; straight = m.straight; moves = m.moves } };
+    ghost view = { λ m. record { search = m.search; claim = m.claim; spread = m.spread; coarsest = m.coarsest; finest = m.finest; straight = m.straight; moves = m.moves } };
 
-    ghost invariant = { λ m. IsMethod (record { search = m.search; claim = m.claim; spread = m.spread; finest = m.finest; straight = m.straight; moves = m.moves }) };
+    ghost invariant = { λ m. IsMethod (record { search = m.search; claim = m.claim; spread = m.spread; coarsest = m.coarsest; finest = m.finest; straight = m.straight; moves = m.moves }) };
 }

@@ -10,11 +10,12 @@ use Rattle.map_method.specs.Methods.{MethodChoices}
 use Rattle.map_method.specs.Defaults.{default_choices}
 use Rattle.transit_feed.specs.Feeds.{Feed}
 use Rattle.toml.specs.Data.{Data, Members}
-use Rattle.map_settings.specs.Values.{near_of, cell_of, budget_of, types_of, weights_of, importance_of, search_of, claim_of, spread_of, finest_of, straight_of, moves_of}
+use Rattle.map_settings.specs.Values.{near_of, cell_of, budget_of, types_of, weights_of, importance_of, search_of, claim_of, spread_of, coarsest_of, finest_of, straight_of, moves_of, defaults_of}
 use Rattle.map_settings.specs.Tables.{entries}
-use Rattle.map_settings.specs.Entries.{near_is, cell_is, budget_is, types_are, junction_is, station_is, importance_is, search_is, claim_is, spread_is, finest_is, straight_is, moves_are, settings_change, method_change, is_of_method, in_settings, in_method, change_of}
-use Rattle.map_settings.specs.Outcome.{bad_keys, least, changed, after, set_outcome, sets_outcome, settings_outcome, unless_bad, table_outcome, with_table}
+use Rattle.map_settings.specs.Entries.{near_is, cell_is, budget_is, types_are, junction_is, station_is, importance_is, search_is, claim_is, spread_is, coarsest_is, finest_is, straight_is, moves_are, settings_change, method_change, is_of_method, names_defaults, becomes, in_settings, in_method, in_defaults, change_of}
+use Rattle.map_settings.specs.Outcome.{bad_keys, least, changed, after, over_named, set_outcome, sets_outcome, texts_outcome, unless_bad, table_outcome, with_table}
 use Rattle.map_settings.specs.declared.fault.SettingsWhy.{SettingsWhy}
+use Rattle.map_settings.proofs.ChangeLemmas.{change_by}
 use Rattle.map_edits.specs.declared.edit.Edit.{Edit}
 use Rattle.map_edits.specs.declared.edit.Edit.TheVariants as edit
 use Rattle.map_edits.specs.Effects.{choices_by, choices_after, feed_after}
@@ -69,25 +70,26 @@ KeepsClaim change = (a b : MethodChoices) → a.claim ≡ b.claim → (change a)
 
 method_tame : (entry : List ℕ × Data) → IfSome (method_change entry) KeepsClaim
 method_tame entry =
-    by_tests (bytes_eq entry.0 (codes "search")) (bytes_eq entry.0 (codes "proof")) (bytes_eq entry.0 (codes "spread")) (bytes_eq entry.0 (codes "finest")) (bytes_eq entry.0 (codes "straight")) (bytes_eq entry.0 (codes "moves"))
+    by_tests (bytes_eq entry.0 (codes "search")) (bytes_eq entry.0 (codes "proof")) (bytes_eq entry.0 (codes "spread")) (bytes_eq entry.0 (codes "coarsest")) (bytes_eq entry.0 (codes "finest")) (bytes_eq entry.0 (codes "straight")) (bytes_eq entry.0 (codes "moves"))
   where
-    by_tests : (search proof spread finest straight moves : Bool)
+    by_tests : (search proof spread coarsest finest straight moves : Bool)
         → IfSome (if search then option_map search_is (search_of entry.1) else if proof then option_map claim_is (claim_of entry.1) else if spread then option_map spread_is (spread_of entry.1)
-        else if finest then option_map finest_is (finest_of entry.1) else if straight then option_map straight_is (straight_of entry.1) else if moves then option_map moves_are (moves_of entry.1) else None) KeepsClaim
-    by_tests true proof spread finest straight moves = each_passes KeepsClaim search_is (search_of entry.1) (λ v a b e. e)
-    by_tests false true spread finest straight moves = each_passes KeepsClaim claim_is (claim_of entry.1) (λ v a b e. refl)
-    by_tests false false true finest straight moves = each_passes KeepsClaim spread_is (spread_of entry.1) (λ v a b e. e)
-    by_tests false false false true straight moves = each_passes KeepsClaim finest_is (finest_of entry.1) (λ v a b e. e)
-    by_tests false false false false true moves = each_passes KeepsClaim straight_is (straight_of entry.1) (λ v a b e. e)
-    by_tests false false false false false true = each_passes KeepsClaim moves_are (moves_of entry.1) (λ v a b e. e)
-    by_tests false false false false false false = tt
+        else if coarsest then option_map coarsest_is (coarsest_of entry.1) else if finest then option_map finest_is (finest_of entry.1) else if straight then option_map straight_is (straight_of entry.1) else if moves then option_map moves_are (moves_of entry.1) else None) KeepsClaim
+    by_tests true proof spread coarsest finest straight moves = each_passes KeepsClaim search_is (search_of entry.1) (λ v a b e. e)
+    by_tests false true spread coarsest finest straight moves = each_passes KeepsClaim claim_is (claim_of entry.1) (λ v a b e. refl)
+    by_tests false false true coarsest finest straight moves = each_passes KeepsClaim spread_is (spread_of entry.1) (λ v a b e. e)
+    by_tests false false false true finest straight moves = each_passes KeepsClaim coarsest_is (coarsest_of entry.1) (λ v a b e. e)
+    by_tests false false false false true straight moves = each_passes KeepsClaim finest_is (finest_of entry.1) (λ v a b e. e)
+    by_tests false false false false false true moves = each_passes KeepsClaim straight_is (straight_of entry.1) (λ v a b e. e)
+    by_tests false false false false false false true = each_passes KeepsClaim moves_are (moves_of entry.1) (λ v a b e. e)
+    by_tests false false false false false false false = tt
 
 -- the settings are alike, and the same is to be proved
 abbrev Alike : MapSettings → MapSettings → Type 0
 Alike x y = AreAlike x.settings y.settings × (x.method.claim ≡ y.method.claim)
 
 change_alike : (entry : List ℕ × Data) (x y : MapSettings) → Alike x y → Alike (changed (change_of entry) x) (changed (change_of entry) y)
-change_alike entry x y alike = by_test (is_of_method entry.0)
+change_alike entry x y alike = by_tests (names_defaults entry.0) (is_of_method entry.0)
   where
     of_method : (change : Option (MethodChoices → MethodChoices)) → IfSome change KeepsClaim → Alike (changed (option_map in_method change) x) (changed (option_map in_method change) y)
     of_method None keeps = alike
@@ -97,10 +99,14 @@ change_alike entry x y alike = by_test (is_of_method entry.0)
     of_settings None tame = alike
     of_settings (Some change) tame = (tame x.settings y.settings alike.0, alike.1)
 
-    by_test : (method : Bool) → Alike (changed (if method then option_map in_method (method_change entry) else option_map in_settings (settings_change entry)) x)
-        (changed (if method then option_map in_method (method_change entry) else option_map in_settings (settings_change entry)) y)
-    by_test true = of_method (method_change entry) (method_tame entry)
-    by_test false = of_settings (settings_change entry) (settings_tame entry)
+    of_defaults : (change : Option (Defaults → Defaults)) → Alike (changed (option_map in_defaults change) x) (changed (option_map in_defaults change) y)
+    of_defaults None = alike
+    of_defaults (Some change) = alike
+
+    by_tests : (named method : Bool) → Alike (changed (change_by entry named method) x) (changed (change_by entry named method) y)
+    by_tests true method = of_defaults (option_map becomes (defaults_of entry.1))
+    by_tests false true = of_method (method_change entry) (method_tame entry)
+    by_tests false false = of_settings (settings_change entry) (settings_tame entry)
 
 after_alike : (file : List (List ℕ × Data)) (x y : MapSettings) → Alike x y → Alike (after file x) (after file y)
 after_alike [] x y alike = alike
@@ -143,11 +149,22 @@ given_alike (Err why) (Err other) alike = ap (λ (w : SettingsWhy). refused.BadS
 given_alike (Ok x) (Ok y) alike = alike
 given_alike x y alike = absurd alike
 
+-- and so do texts over the settings of whichever command they name
+named_alike : (texts : List (List ℕ)) (x y : Result MapSettings SettingsWhy) → AlikeBy Alike x y → AlikeBy Alike (over_named texts x) (over_named texts y)
+named_alike texts (Ok x) (Ok y) alike =
+    sets_alike texts (Ok (default_choices x.defaults)) (Ok (default_choices y.defaults)) (defaults_alike x.defaults y.defaults)
+named_alike texts (Err why) (Err other) alike = alike
+named_alike texts x y alike = absurd alike
+
+texts_alike : (c d : Defaults) (texts : List (List ℕ)) → AlikeBy Alike (settings_given (texts_outcome c texts)) (settings_given (texts_outcome d texts))
+texts_alike c d texts =
+    given_alike (texts_outcome c texts) (texts_outcome d texts)
+    (named_alike texts (sets_outcome texts (Ok (default_choices c))) (sets_outcome texts (Ok (default_choices d)))
+    (sets_alike texts (Ok (default_choices c)) (Ok (default_choices d)) (defaults_alike c d)))
+
 file_alike : (c d : Defaults) (sets : List (List ℕ)) (file : Option (List ℕ)) → AlikeBy Alike (settings_in c sets file) (settings_in d sets file)
 file_alike c d sets None = refl
-file_alike c d sets (Some bytes) =
-    given_alike (sets_outcome sets (settings_outcome c bytes)) (sets_outcome sets (settings_outcome d bytes))
-    (sets_alike sets (settings_outcome c bytes) (settings_outcome d bytes) (text_alike (default_choices c) (default_choices d) bytes (defaults_alike c d)))
+file_alike c d sets (Some bytes) = texts_alike c d (bytes ∷ sets)
 
 -- Works over alike settings.
 
@@ -161,8 +178,7 @@ abbrev by_file : Defaults → List (List ℕ) → Option (List ℕ) → Work Inp
 by_file defaults sets file = ends (settings_in defaults sets file)
 
 settings_alike : (c d : Defaults) (sets : List (List ℕ)) (settings : Option (List ℕ)) (given : Given) → AlikeBy Alike (outcome (settings_by c sets settings) given) (outcome (settings_by d sets settings) given)
-settings_alike c d sets None given =
-    given_alike (sets_outcome sets (Ok (default_choices c))) (sets_outcome sets (Ok (default_choices d))) (sets_alike sets (Ok (default_choices c)) (Ok (default_choices d)) (defaults_alike c d))
+settings_alike c d sets None given = texts_alike c d sets
 settings_alike c d sets (Some path) given = by_read (file_outcome (given input.Settings))
   where
     by_read : (read : Result (Option (List ℕ)) Refusal) → AlikeBy Alike (outcome (ends read >>= by_file c sets) given) (outcome (ends read >>= by_file d sets) given)

@@ -1,6 +1,7 @@
-mod ChangeLemmas
+pub mod ChangeLemmas
 mod EachLemmas
 mod ImportanceLemmas
 mod KeyLemmas
+pub mod Named
 mod TableLemmas
 mod TextLemmas

@@ -62,12 +62,22 @@ with_table base (Some table) = entries_outcome base (entries table)
 abbrev pub set_outcome : MapSettings → List ℕ → Result MapSettings SettingsWhy
 set_outcome base bytes = with_table base (table_outcome bytes)
 
--- what a file with these bytes makes
-abbrev pub settings_outcome : Defaults → List ℕ → Result MapSettings SettingsWhy
-settings_outcome defaults bytes = set_outcome (default_choices defaults) bytes
-
 -- what texts make of settings, one after another, or of a refusal: that refusal
 abbrev pub sets_outcome : List (List ℕ) → Result MapSettings SettingsWhy → Result MapSettings SettingsWhy
 sets_outcome [] settings = settings
 sets_outcome (text ∷ more) (Err why) = Err why
 sets_outcome (text ∷ more) (Ok base) = sets_outcome more (set_outcome base text)
+
+-- the same texts, over the settings of the command that they name by the key `method`
+abbrev pub over_named : List (List ℕ) → Result MapSettings SettingsWhy → Result MapSettings SettingsWhy
+over_named texts (Ok all) = sets_outcome texts (Ok (default_choices all.defaults))
+over_named texts (Err why) = Err why
+
+-- The settings that texts make, one after another: where a key is missing, those of the command that the key `method` names
+-- hold, and where that is missing too, these.
+abbrev pub texts_outcome : Defaults → List (List ℕ) → Result MapSettings SettingsWhy
+texts_outcome defaults texts = over_named texts (sets_outcome texts (Ok (default_choices defaults)))
+
+-- what a file with these bytes makes
+abbrev pub settings_outcome : Defaults → List ℕ → Result MapSettings SettingsWhy
+settings_outcome defaults bytes = texts_outcome defaults (bytes ∷ [])

@@ -3,6 +3,8 @@ use Rattle.std.specs.Prelude.{ℕ, ◌^◌, ◌-◌, ℤ, pos, negsuc, ◌&&◌,
 use Rattle.std.specs.Option.{option_and_then}
 use Rattle.std.specs.Str.{bytes_eq}
 use Rattle.map_base.specs.declared.weights.Weights.{Weights}
+use Rattle.map_method.specs.declared.defaults.Defaults.{Defaults}
+use Rattle.map_method.specs.declared.defaults.Defaults.TheVariants.{Make, Map}
 use Rattle.map_method.specs.declared.search.Search.{Search}
 use Rattle.map_method.specs.declared.search.Search.TheVariants.{Live, Dual}
 use Rattle.map_method.specs.declared.claim.Claim.{Claim}
@@ -81,6 +83,13 @@ importances lines = option_and_then (of_each importance_at) (at_most 1000 lines)
 abbrev pub importance_of : Data → Option (List (List ℕ × ℕ))
 importance_of value = option_and_then (λ members. importances (entries members)) (as_table value)
 
+-- the command whose settings hold where keys are missing, by its name
+abbrev pub defaults_named : List ℕ → Option Defaults
+defaults_named name = if bytes_eq name (codes "make") then Some Make else if bytes_eq name (codes "map") then Some Map else None
+
+abbrev pub defaults_of : Data → Option Defaults
+defaults_of value = option_and_then defaults_named (as_str value)
+
 -- how line orders are searched for, by its name
 abbrev pub search_named : List ℕ → Option Search
 search_named name = if bytes_eq name (codes "live") then Some Live else if bytes_eq name (codes "dual") then Some Dual else None
@@ -106,6 +115,14 @@ spread_by None value = option_map Percent (whole_number 0 100 value)
 
 abbrev pub spread_of : Data → Option Spread
 spread_of value = spread_by (as_str value) value
+
+-- 1, 2 or 4
+abbrev pub one_two_four : ℕ → Option ℕ
+one_two_four coarsest = if coarsest == 1 || coarsest == 2 || coarsest == 4 then Some coarsest else None
+
+-- how fine the coarsest grid is
+abbrev pub coarsest_of : Data → Option ℕ
+coarsest_of value = option_and_then one_two_four (whole_number 1 4 value)
 
 -- 4, 8 or 16
 abbrev pub four_eight_sixteen : ℕ → Option ℕ

@@ -1,6 +1,7 @@
 //! Reading a settings file.
 
 ghost use Rattle.std.specs.Prelude.{◌≡◌};
+ghost use Rattle.map_method.specs.Defaults.{default_choices};
 ghost use Rattle.map_settings.specs.Tables.{entries};
 ghost use Rattle.toml.specs.View.{table_view};
 ghost use Rattle.map_settings.specs.Faults.{Names, Reads, ReadsTable};
@@ -13,13 +14,27 @@ use map_method::{Defaults, MapSettings};
 use std::alloc::Global;
 use toml::Table;
 
-/// The settings that a file with these bytes makes: those that its keys say, and the defaults for missing keys.
+/// The settings that a file with these bytes makes: those that its keys say, and for missing keys those of the command that
+/// its key `method` names, or else these.
+#[tactic(auto, using(crate::proofs::Named::refused_first, crate::proofs::Named::read_over))]
 pub fn read_settings(
     alloc: Global,
     bytes: &[u8],
     defaults: Defaults,
 ) -> Result<MapSettings, SettingsFault>
     ensures { Reads result (settings_outcome defaults bytes.now) }
+{
+    let first = settings_over(alloc, bytes, defaults)?;
+    settings_over(alloc, bytes, first.defaults)
+}
+
+/// The settings that a file with these bytes makes over those of a command, whatever its key `method` names.
+fn settings_over(
+    alloc: Global,
+    bytes: &[u8],
+    defaults: Defaults,
+) -> Result<MapSettings, SettingsFault>
+    ensures { Reads result (set_outcome (default_choices defaults) bytes.now) }
 {
     let base = MapSettings::standard(alloc, defaults)?;
     set_settings(alloc, bytes, base)

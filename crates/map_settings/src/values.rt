@@ -5,12 +5,12 @@ ghost use Rattle.toml.specs.View.{view, table_view};
 ghost use Rattle.map_base.specs.Settings.{AreLight, AreRisingIds, IsImportance};
 ghost use Rattle.map_settings.specs.Faults.{Gives};
 ghost use Rattle.map_settings.specs.Tables.{entries};
-ghost use Rattle.map_method.specs.Methods.{IsFinest, IsSpread};
-ghost use Rattle.map_settings.specs.Values.{whole_number, near_of, cell_of, budget_of, types_of, route_types, weights_of, three_weights, importance_of, importances, search_of, search_named, claim_of, claim_named, spread_of, spread_named, finest_of, straight_of, moves_of};
+ghost use Rattle.map_method.specs.Methods.{IsCoarsest, IsFinest, IsSpread};
+ghost use Rattle.map_settings.specs.Values.{whole_number, near_of, cell_of, budget_of, types_of, route_types, weights_of, three_weights, importance_of, importances, search_of, search_named, claim_of, claim_named, spread_of, spread_named, coarsest_of, finest_of, straight_of, moves_of, defaults_of, defaults_named};
 
 use crate::fault::EntryFault;
 use map_base::{Sequence, Text, Weights};
-use map_method::{Claim, Search, Spread};
+use map_method::{Claim, Defaults, Search, Spread};
 use std::alloc::Global;
 use toml::{Table, Value};
 
@@ -143,6 +143,26 @@ fn importances(alloc: Global, lines: &Table) -> Result<Sequence<(Text, u32)>, En
     Ok(Sequence::of(pairs))
 }
 
+/// The command whose settings hold where keys are missing: "make" or "map".
+pub fn defaults_of(value: &Value) -> Option<Defaults>
+    ensures { result ≡ defaults_of (view value.now) }
+{
+    match value.as_str() {
+        Some(name) => defaults_named(name),
+        None => None,
+    }
+}
+
+fn defaults_named(name: &str) -> Option<Defaults>
+    ensures { result ≡ defaults_named name.now }
+{
+    match name {
+        "make" => Some(Defaults::Make),
+        "map" => Some(Defaults::Map),
+        _ => None,
+    }
+}
+
 /// How line orders are searched for: "live" or "dual".
 pub fn search_of(value: &Value) -> Option<Search>
     ensures { result ≡ search_of (view value.now) }
@@ -200,6 +220,17 @@ fn spread_named(name: &str) -> Option<Spread>
 {
     match name {
         "auto" => Some(Spread::Auto),
+        _ => None,
+    }
+}
+
+/// How fine the coarsest grid is: 1, 2 or 4.
+pub fn coarsest_of(value: &Value) -> Option<u32>
+    ensures value { result ≡ coarsest_of (view value.now) }
+    ensures range { IfSome result IsCoarsest }
+{
+    match whole_number(value, 1, 4) {
+        Some(coarsest) if coarsest == 1 || coarsest == 2 || coarsest == 4 => Some(coarsest),
         _ => None,
     }
 }

@@ -14,7 +14,7 @@ use Rattle.message_texts.specs.Keys.{key_name, word_name}
 abbrev pub all_keys : List SettingKey
 all_keys =
     key.Types ∷ key.Near ∷ key.Junction ∷ key.Station ∷ key.Importance ∷ key.Cell ∷ key.Spread
-    ∷ key.Finest ∷ key.Straight ∷ key.Moves ∷ key.Search ∷ key.Proof ∷ key.Budget ∷ []
+    ∷ key.Coarsest ∷ key.Finest ∷ key.Straight ∷ key.Moves ∷ key.Search ∷ key.Proof ∷ key.Budget ∷ key.Method ∷ []
 
 -- the words as they are listed
 abbrev pub all_words : List EditWord
@@ -40,7 +40,7 @@ none_more name text all place d written test low none is tests differs =
 pub no_key : (text : List ℕ) → list_any (λ (k : SettingKey). bytes_eq (key_name k) text) all_keys ≡ false → (k : SettingKey) → key_name k ≢ text
 no_key text none k = of_key k
   where
-    at : (place : ℕ) → place < 13 → key_name (get_or all_keys place key.Types) ≢ text
+    at : (place : ℕ) → place < 15 → key_name (get_or all_keys place key.Types) ≢ text
     at place low = not_at key_name text all_keys place key.Types none low
 
     of_key : (k : SettingKey) → key_name k ≢ text
@@ -51,12 +51,14 @@ no_key text none k = of_key k
     of_key key.Importance = at 4 (omega arith)
     of_key key.Cell = at 5 (omega arith)
     of_key key.Spread = at 6 (omega arith)
-    of_key key.Finest = at 7 (omega arith)
-    of_key key.Straight = at 8 (omega arith)
-    of_key key.Moves = at 9 (omega arith)
-    of_key key.Search = at 10 (omega arith)
-    of_key key.Proof = at 11 (omega arith)
-    of_key key.Budget = at 12 (omega arith)
+    of_key key.Coarsest = at 7 (omega arith)
+    of_key key.Finest = at 8 (omega arith)
+    of_key key.Straight = at 9 (omega arith)
+    of_key key.Moves = at 10 (omega arith)
+    of_key key.Search = at 11 (omega arith)
+    of_key key.Proof = at 12 (omega arith)
+    of_key key.Budget = at 13 (omega arith)
+    of_key key.Method = at 14 (omega arith)
 
 pub no_word : (text : List ℕ) → list_any (λ (w : EditWord). bytes_eq (word_name w) text) all_words ≡ false → (w : EditWord) → word_name w ≢ text
 no_word text none w = of_word w

@@ -14,12 +14,14 @@ key_name key.Station = codes "station"
 key_name key.Importance = codes "importance"
 key_name key.Cell = codes "cell"
 key_name key.Spread = codes "spread"
+key_name key.Coarsest = codes "coarsest"
 key_name key.Finest = codes "finest"
 key_name key.Straight = codes "straight"
 key_name key.Moves = codes "moves"
 key_name key.Search = codes "search"
 key_name key.Proof = codes "proof"
 key_name key.Budget = codes "budget"
+key_name key.Method = codes "method"
 
 -- a word as it is written
 abbrev pub word_name : EditWord → List ℕ

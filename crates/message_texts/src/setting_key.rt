@@ -13,16 +13,18 @@ pub enum SettingKey {
     Importance,
     Cell,
     Spread,
+    Coarsest,
     Finest,
     Straight,
     Moves,
     Search,
     Proof,
     Budget,
+    Method,
 }
 
 /// All keys.
-pub const SETTING_KEYS: [SettingKey; 13] = [
+pub const SETTING_KEYS: [SettingKey; 15] = [
     SettingKey::Types,
     SettingKey::Near,
     SettingKey::Junction,
@@ -30,12 +32,14 @@ pub const SETTING_KEYS: [SettingKey; 13] = [
     SettingKey::Importance,
     SettingKey::Cell,
     SettingKey::Spread,
+    SettingKey::Coarsest,
     SettingKey::Finest,
     SettingKey::Straight,
     SettingKey::Moves,
     SettingKey::Search,
     SettingKey::Proof,
     SettingKey::Budget,
+    SettingKey::Method,
 ];
 
 impl SettingKey {
@@ -51,12 +55,14 @@ impl SettingKey {
             SettingKey::Importance => "importance",
             SettingKey::Cell => "cell",
             SettingKey::Spread => "spread",
+            SettingKey::Coarsest => "coarsest",
             SettingKey::Finest => "finest",
             SettingKey::Straight => "straight",
             SettingKey::Moves => "moves",
             SettingKey::Search => "search",
             SettingKey::Proof => "proof",
             SettingKey::Budget => "budget",
+            SettingKey::Method => "method",
         }
     }
 
@@ -88,11 +94,13 @@ impl SettingKey {
             }
             SettingKey::Cell => "0, or a whole number of decimetres from 10 to 1000000",
             SettingKey::Spread => "a whole number of per cent from 0 to 100, or \"auto\"",
+            SettingKey::Coarsest => "1, 2 or 4",
             SettingKey::Finest => "4, 8 or 16",
             SettingKey::Straight | SettingKey::Moves => "a whole number from 0 to 10000",
             SettingKey::Search => "\"live\" or \"dual\"",
             SettingKey::Proof => "\"best\" or \"bound\"",
             SettingKey::Budget => "a whole number from 1 to 100000",
+            SettingKey::Method => "\"make\" or \"map\"",
         }
     }
 }

@@ -1,10 +1,11 @@
 -- Attempts, one after another.
-use Rattle.std.proofs.Common.{◌≡◌, refl, sym, ◌∙◌, ap, ℕ, ◌+◌, ◌<◌, ◌≤◌, Bool, true, false, cond, leb, List, [], ◌∷◌, ◌++◌, length, get_or, drop, Some, None, Result, Ok, Err, is_ok, append_assoc, append-nil, arith}
+use Rattle.std.proofs.Common.{◌≡◌, refl, sym, ◌∙◌, ap, ℕ, ◌+◌, ◌<◌, ◌≤◌, Bool, true, false, cond, List, [], ◌∷◌, ◌++◌, length, get_or, drop, Some, None, Result, Ok, Err, is_ok, append_assoc, append-nil, arith}
 use Rattle.std.specs.List.{AllByRecursion, filter, flat_map}
 use Rattle.std.proofs.lemmas.Bool.{cond_both}
 use Rattle.std.proofs.lemmas.List.{drop_more}
 use Rattle.map_base.specs.declared.ids.SegId.{SegId}
 use Rattle.map_base.specs.declared.point.Point.{Point}
+use Rattle.map_method.specs.declared.drawing_plan.DrawingPlan.{DrawingPlan}
 use Rattle.map_method.specs.declared.spread.Spread.{Spread}
 use Rattle.map_method.specs.declared.spread.Spread.TheVariants.{Percent, Auto}
 use Rattle.map_method.specs.Methods.{IsSpread}
@@ -21,7 +22,7 @@ use Rattle.start_positions.specs.Cells.{cell_side, is_too_fine}
 use Rattle.start_positions.specs.Homes.{grid_under, placing_at}
 use Rattle.segment_router.specs.Routes.{routes_from}
 use Rattle.start_positions.specs.Homes.{IsPlacing}
-use Rattle.segment_router.specs.Routing.{attempts_of, attempts_on, first_drawn, grids_upto, nothing_drawn, or_else, percents_of, routes_at, IsAttempt}
+use Rattle.segment_router.specs.Routing.{attempts_of, attempts_on, first_drawn, grids_between, is_between, nothing_drawn, or_else, percents_of, routes_at, IsAttempt}
 use Rattle.start_positions.specs.Cells.{limit_found, limit_of}
 use Rattle.start_positions.specs.Spreads.{spread_offsets}
 use Rattle.start_positions.proofs.GridLemmas.{fine_enough, grid_near}
@@ -120,12 +121,10 @@ IsGrid fineness = (0 < fineness) × (fineness ≤ 16)
 abbrev IsPart : ℕ → Type 0
 IsPart percent = percent ≤ 100
 
-grids_fit : (finest : ℕ) → AllByRecursion IsGrid (grids_upto finest)
-grids_fit finest = (
-  (omega arith, omega arith),
-  all_filtered IsGrid (λ fineness. leb fineness finest) (2 ∷ 4 ∷ 8 ∷ 16 ∷ [])
-      ((omega arith, omega arith), ((omega arith, omega arith), ((omega arith, omega arith), ((omega arith, omega arith), tt)))),
-)
+grids_fit : (coarsest finest : ℕ) → AllByRecursion IsGrid (grids_between coarsest finest)
+grids_fit coarsest finest =
+    all_filtered IsGrid (is_between coarsest finest) (1 ∷ 2 ∷ 4 ∷ 8 ∷ 16 ∷ [])
+    ((omega arith, omega arith), ((omega arith, omega arith), ((omega arith, omega arith), ((omega arith, omega arith), ((omega arith, omega arith), tt)))))
 
 percents_fit : (spread : Spread) → IsSpread spread → AllByRecursion IsPart (percents_of spread)
 percents_fit (Percent percent) h = (h, tt)
@@ -137,9 +136,10 @@ attempts_on_fit percents parts fineness grid =
     of_mapped (λ (percent : ℕ). let a : Attempt = record { fineness = fineness; percent = percent } in a) IsPart IsAttempt percents
     (λ percent part. record { some = grid.0; fine = grid.1; within = part }) parts
 
-pub attempts_fit : (spread : Spread) (finest : ℕ) → IsSpread spread → AllByRecursion IsAttempt (attempts_of spread finest)
-attempts_fit spread finest h =
-    all_flat (attempts_on (percents_of spread)) IsGrid IsAttempt (grids_upto finest) (attempts_on_fit (percents_of spread) (percents_fit spread h)) (grids_fit finest)
+pub attempts_fit : (plan : DrawingPlan) → IsSpread plan.spread → AllByRecursion IsAttempt (attempts_of plan)
+attempts_fit plan h =
+    all_flat (attempts_on (percents_of plan.spread)) IsGrid IsAttempt (grids_between plan.coarsest plan.finest)
+    (attempts_on_fit (percents_of plan.spread) (percents_fit plan.spread h)) (grids_fit plan.coarsest plan.finest)
 
 -- one more of a list that is filtered, or of one from whose elements lists come
 pub filter_more : {X : Type 0} (p : X → Bool) (xs : List X) (i : ℕ) (d : X) (done : List X) → i < length xs

@@ -10,6 +10,8 @@ use Rattle.octi_grid.specs.declared.dir.Dir.TheVariants as dir
 use Rattle.octi_grid.specs.declared.point.GridPoint.{GridPoint}
 use Rattle.octi_grid.specs.Walks.{PlainWalk}
 use Rattle.start_positions.specs.declared.placing.Placing.{Placing}
+use Rattle.map_method.specs.declared.drawing_plan.DrawingPlan.{DrawingPlan}
+use Rattle.map_method.specs.declared.spread.Spread.{Spread}
 use Rattle.map_method.specs.declared.spread.Spread.TheVariants.{Percent, Auto}
 use Rattle.segment_router.specs.declared.attempts.Attempt.{Attempt}
 use Rattle.segment_router.specs.Routing.{attempts_of}
@@ -134,15 +136,24 @@ others_stay = refl
 abbrev try : ℕ → ℕ → Attempt
 try fineness percent = record { fineness = fineness; percent = percent }
 
-as_before : attempts_of (Percent 0) 4 ≡ try 1 0 ∷ try 2 0 ∷ try 4 0 ∷ []
+abbrev plan : Spread → ℕ → ℕ → DrawingPlan
+plan spread coarsest finest = record { cell = 0; spread = spread; coarsest = coarsest; finest = finest; straight = 0 }
+
+as_before : attempts_of (plan (Percent 0) 1 4) ≡ try 1 0 ∷ try 2 0 ∷ try 4 0 ∷ []
 as_before = refl
 
-up_to_eight : attempts_of (Percent 35) 8 ≡ try 1 35 ∷ try 2 35 ∷ try 4 35 ∷ try 8 35 ∷ []
+up_to_eight : attempts_of (plan (Percent 35) 1 8) ≡ try 1 35 ∷ try 2 35 ∷ try 4 35 ∷ try 8 35 ∷ []
 up_to_eight = refl
 
-all_attempts : length (attempts_of Auto 16) ≡ 55
+from_two : attempts_of (plan (Percent 0) 2 8) ≡ try 2 0 ∷ try 4 0 ∷ try 8 0 ∷ []
+from_two = refl
+
+four_alone : attempts_of (plan (Percent 0) 4 4) ≡ try 4 0 ∷ []
+four_alone = refl
+
+all_attempts : length (attempts_of (plan Auto 1 16)) ≡ 55
 all_attempts = refl
 
-spreads_first : take 13 (attempts_of Auto 16)
+spreads_first : take 13 (attempts_of (plan Auto 1 16))
     ≡ try 1 0 ∷ try 1 10 ∷ try 1 20 ∷ try 1 30 ∷ try 1 40 ∷ try 1 50 ∷ try 1 60 ∷ try 1 70 ∷ try 1 80 ∷ try 1 90 ∷ try 1 100 ∷ try 2 0 ∷ try 2 10 ∷ []
 spreads_first = refl

@@ -1,8 +1,9 @@
 -- What comes of a graph: its drawing, or why it has none.
-use Rattle.std.specs.Prelude.{ℕ, ◌≡◌, ◌<◌, ◌≤◌, nat_le, List, [], ◌∷◌, map, filter, Option, Some, None, Result, Ok, Err}
+use Rattle.std.specs.Prelude.{ℕ, ◌≡◌, ◌<◌, ◌≤◌, nat_le, Bool, ◌&&◌, List, [], ◌∷◌, map, filter, Option, Some, None, Result, Ok, Err}
 use Rattle.std.specs.List.{flat_map}
 use Rattle.map_base.specs.declared.ids.SegId.{SegId}
 use Rattle.map_base.specs.declared.limit.Limit.{Limit}
+use Rattle.map_method.specs.declared.drawing_plan.DrawingPlan.{DrawingPlan}
 use Rattle.map_method.specs.declared.spread.Spread.{Spread}
 use Rattle.map_method.specs.declared.spread.Spread.TheVariants.{Percent, Auto}
 use Rattle.graph_core.specs.declared.parts.GraphParts.{GraphParts}
@@ -39,17 +40,21 @@ abbrev pub percents_of : Spread → List ℕ
 percents_of (Percent percent) = percent ∷ []
 percents_of Auto = 0 ∷ 10 ∷ 20 ∷ 30 ∷ 40 ∷ 50 ∷ 60 ∷ 70 ∷ 80 ∷ 90 ∷ 100 ∷ []
 
--- how fine the grids are, up to the finest
-abbrev pub grids_upto : ℕ → List ℕ
-grids_upto finest = 1 ∷ filter (λ fineness. nat_le fineness finest) (2 ∷ 4 ∷ 8 ∷ 16 ∷ [])
+-- a grid is as fine as the coarsest or finer, and as coarse as the finest or coarser
+abbrev pub is_between : ℕ → ℕ → ℕ → Bool
+is_between coarsest finest fineness = nat_le coarsest fineness && nat_le fineness finest
+
+-- how fine the grids are, from the coarsest to the finest
+abbrev pub grids_between : ℕ → ℕ → List ℕ
+grids_between coarsest finest = filter (is_between coarsest finest) (1 ∷ 2 ∷ 4 ∷ 8 ∷ 16 ∷ [])
 
 -- the attempts on a grid
 abbrev pub attempts_on : List ℕ → ℕ → List Attempt
 attempts_on percents fineness = map (λ percent. record { fineness = fineness; percent = percent }) percents
 
 -- all attempts: each spread on a grid before the next grid
-abbrev pub attempts_of : Spread → ℕ → List Attempt
-attempts_of spread finest = flat_map (attempts_on (percents_of spread)) (grids_upto finest)
+abbrev pub attempts_of : DrawingPlan → List Attempt
+attempts_of plan = flat_map (attempts_on (percents_of plan.spread)) (grids_between plan.coarsest plan.finest)
 
 -- an attempt at a drawing: its fineness is from 1 to 16, and nodes are put at most the whole way
 pub record IsAttempt (a : Attempt) : Type 0 where
@@ -71,10 +76,10 @@ outcome_under None drawn = as_outcome drawn
 abbrev pub outcome_of : GraphParts → ℕ → List Attempt → Result (List PlainWalk) RouteFault
 outcome_of graph cell attempts = outcome_under (limit_of graph.places cell) (first_drawn graph cell nothing_drawn attempts)
 
--- What comes of a graph on cells of a side, of a spread and a finest grid: a limit; or the drawing of the first attempt
--- that gives every segment a walk; or no route, where none does.
-abbrev pub route_outcome : GraphParts → ℕ → Spread → ℕ → Result (List PlainWalk) RouteFault
-route_outcome graph cell spread finest = outcome_of graph cell (attempts_of spread finest)
+-- What comes of a graph by a plan: a limit of its cells; or the drawing of the first attempt that gives every segment a
+-- walk; or no route, where none does.
+abbrev pub route_outcome : GraphParts → DrawingPlan → Result (List PlainWalk) RouteFault
+route_outcome graph plan = outcome_of graph plan.cell (attempts_of plan)
 
 -- a fault has its cause; want of memory is free
 abbrev pub HasCause : Result (List PlainWalk) RouteFault → RouteFault → Type 0

@@ -1,11 +1,11 @@
 //! The attempts at a drawing: grids, finer and finer, and on each of them how far nodes are spread.
 
-ghost use Rattle.std.specs.Prelude.{◌≡◌, ◌++◌, ◌∷◌, [], nat_le, filter, IfOk, OnOk, if◌then◌else◌};
+ghost use Rattle.std.specs.Prelude.{◌≡◌, ◌++◌, ◌∷◌, [], filter, IfOk, OnOk, if◌then◌else◌};
 ghost use Rattle.std.specs.List.{flat_map};
-ghost use Rattle.segment_router.specs.Routing.{attempts_of, attempts_on, grids_upto, percents_of};
+ghost use Rattle.segment_router.specs.Routing.{attempts_of, attempts_on, grids_between, is_between, percents_of};
 
 use map_base::NoMemory;
-use map_method::Spread;
+use map_method::{DrawingPlan, Spread};
 use std::alloc::Global;
 
 /// An attempt at a drawing: how fine the grid is, from 1 to 16, and how many percent of the way to their even places
@@ -16,16 +16,12 @@ pub(crate) struct Attempt {
     pub(crate) percent: u32,
 }
 
-/// All attempts up to the finest grid, each spread on a grid before the next grid.
-pub(crate) fn attempts_of(
-    alloc: Global,
-    spread: Spread,
-    finest: u32,
-) -> Result<Vec<Attempt>, NoMemory>
-    ensures { IfOk result (λ attempts. attempts.items ≡ attempts_of spread finest) }
+/// All attempts from the coarsest grid to the finest, each spread on a grid before the next grid.
+pub(crate) fn attempts_of(alloc: Global, plan: DrawingPlan) -> Result<Vec<Attempt>, NoMemory>
+    ensures { IfOk result (λ attempts. attempts.items ≡ attempts_of plan) }
 {
-    let percents = percents_of(alloc, spread)?;
-    let grids = grids_upto(alloc, finest)?;
+    let percents = percents_of(alloc, plan.spread)?;
+    let grids = grids_between(alloc, plan.coarsest, plan.finest)?;
     attempts_on_each(alloc, &percents, &grids)
 }
 
@@ -71,23 +67,38 @@ fn percents_of(alloc: Global, spread: Spread) -> Result<Vec<u32>, NoMemory>
     }
 }
 
-/// How fine the grids are, up to the finest.
-fn grids_upto(alloc: Global, finest: u32) -> Result<Vec<u32>, NoMemory>
-    ensures { IfOk result (λ grids. grids.items ≡ grids_upto finest) }
+/// How fine the grids are, from the coarsest to the finest.
+fn grids_between(alloc: Global, coarsest: u32, finest: u32) -> Result<Vec<u32>, NoMemory>
+    ensures { IfOk result (λ grids. grids.items ≡ grids_between coarsest finest) }
 {
-    let mut grids = vec![in alloc; 1]?;
-    push_upto(&mut grids, &[2, 4, 8, 16], finest)?;
+    let mut grids = Vec::new(alloc);
+    push_between(&mut grids, &[1, 2, 4, 8, 16], coarsest, finest)?;
     Ok(grids)
 }
 
-/// Lists those of grids that are no finer than the finest.
-fn push_upto(grids: &mut Vec<u32>, finer: &[u32], finest: u32) -> Result<(), NoMemory>
-    ensures { OnOk result (grids.new.items ≡ grids.old.items ++ filter (λ fineness. nat_le fineness finest) finer.now) }
+/// Lists those of grids that are between the coarsest and the finest.
+fn push_between(
+    grids: &mut Vec<u32>,
+    all: &[u32],
+    coarsest: u32,
+    finest: u32,
+) -> Result<(), NoMemory>
+    ensures { OnOk result (grids.new.items ≡ grids.old.items ++ filter (is_between coarsest finest) all.now) }
 {
-    for fineness in finer {
-        push_if(grids, *fineness, *fineness <= finest)?;
+    for fineness in all {
+        push_if(grids, *fineness, is_between(coarsest, finest, *fineness))?;
     }
     Ok(())
+}
+
+/// Whether a grid is between the coarsest and the finest, or one of them.
+fn is_between(coarsest: u32, finest: u32, fineness: u32) -> bool
+    ensures { result ≡ is_between coarsest finest fineness }
+{
+    if coarsest <= fineness {
+        return fineness <= finest;
+    }
+    false
 }
 
 /// Lists a grid, if it is one of them.

@@ -18,35 +18,29 @@ use crate::order::routing_order;
 use crate::routing::routes_from;
 use graph_core::LineGraph;
 use map_base::{NoMemory, SegId, Sequence};
-use map_method::Spread;
+use map_method::DrawingPlan;
 use octi_grid::{Drawing, Walk};
 use start_positions::{Place, cells_over, place_spread, places_of};
 use std::alloc::Global;
 
-/// The drawing of a line graph on cells of a side in decimetres, or of a fiftieth of its extent for 0: the routes of its
-/// segments, one after another, at the first attempt at which every segment has a free walk. The grids have the finenesses
-/// 1, 2, 4, 8 and 16 up to the finest, and on each one nodes are spread as asked for, before the next one. The drawing is
-/// legal, has one walk for each segment, and lies within 1,800 grid steps of the origin either way. A fault is the limit of cells, or the first segment that has no free walk at
-/// the last attempt.
-pub fn route(
-    alloc: Global,
-    graph: &LineGraph,
-    cell: u32,
-    spread: Spread,
-    finest: u32,
-) -> Result<Drawing, RouteFault>
-    requires { IsSpread spread }
-    ensures drawing { IfOk result (λ d. route_outcome graph.now cell spread finest ≡ Ok d.walks) }
-    ensures cause { IfErr result (λ fault. HasCause (route_outcome graph.now cell spread finest) fault) }
+/// The routes of a line graph's segments, one after another, at the first attempt at which every segment has a free walk.
+/// The grids have those of the finenesses 1, 2, 4, 8 and 16 that lie between the plan's coarsest and its finest, and on each
+/// one nodes are spread as the plan says, before the next one. The drawing is legal, has one walk for each segment, and lies
+/// within 1,800 grid steps of the origin either way. A fault is the limit of cells, or the first segment that has no free
+/// walk at the last attempt.
+pub fn route(alloc: Global, graph: &LineGraph, plan: DrawingPlan) -> Result<Drawing, RouteFault>
+    requires { IsSpread plan.spread }
+    ensures drawing { IfOk result (λ d. route_outcome graph.now plan ≡ Ok d.walks) }
+    ensures cause { IfErr result (λ fault. HasCause (route_outcome graph.now plan) fault) }
     ensures legal { IfOk result (λ d. legal graph.now d.walks ≡ true) }
     ensures each { IfOk result (λ d. length d.walks ≡ length graph.now.ends) }
     ensures near { IfOk result (λ d. are_near 1800 d.walks ≡ true) }
 {
-    let attempts = attempts_of(alloc, spread, finest)?;
-    draw(alloc, graph, cell, &attempts)
+    let attempts = attempts_of(alloc, plan)?;
+    draw(alloc, graph, plan.cell, &attempts)
 }
 
-/// The same for any attempts.
+/// The same for any attempts, on cells of this side.
 fn draw(
     alloc: Global,
     graph: &LineGraph,

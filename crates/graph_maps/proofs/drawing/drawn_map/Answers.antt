@@ -3,7 +3,7 @@ use Rattle.std.proofs.lemmas.Result.{err_from_is_err_and}
 use Rattle.map_base.specs.declared.limit.Limit.{Limit}
 use Rattle.map_base.specs.Settings.{Choices}
 use Rattle.map_base.specs.Faults as terms
-use Rattle.map_method.specs.Methods.{MethodChoices}
+use Rattle.map_method.specs.declared.drawing_plan.DrawingPlan.{DrawingPlan}
 use Rattle.order_model.specs.declared.problem.ProblemParts.{ProblemParts}
 use Rattle.order_terms.specs.Limits.{graph_problem}
 use Rattle.kept_walks.specs.Drawings.{drawing_outcome}
@@ -26,11 +26,8 @@ returns-clause-outcome c =
     let graph = c.args.graph.now in
     let importance = c.args.importance.now in
     let choices = c.args.settings.now in
-    let inside = c.method.inside in
-    let with_cell = subst (λ (s : Choices). drawing_outcome graph s.cell inside.spread inside.finest inside.straight
-    ≡ Ok c.in_ok-drawing.drawing.walks) c.settings.view_is c.in_ok-drawing.ensures.drawing in
-    let routed = subst (λ (m : MethodChoices). drawing_outcome graph choices.cell m.spread m.finest m.straight
-    ≡ Ok c.in_ok-drawing.drawing.walks) c.method.view_is with_cell in
+    let routed = subst (λ (p : DrawingPlan). drawing_outcome graph p ≡ Ok c.in_ok-drawing.drawing.walks)
+    c.drawing_plan.ensures.plan c.in_ok-drawing.ensures.drawing in
     let counted : problem_within importance choices graph ≡ Ok c.in_ok-problem.problem =
     sym (ap (λ (s : Choices). graph_problem graph s.weights importance) c.settings.view_is) ∙ c.in_ok-problem.ensures in
     drawn_is importance choices c.args.method.now graph c.in_ok-drawing.drawing.walks c.in_ok-problem.problem routed
@@ -49,12 +46,8 @@ pub returns-in_err-drawing-clause-outcome : goal.returns-in_err-drawing-clause-o
 returns-in_err-drawing-clause-outcome c =
     let graph = c.args.graph.now in
     let stop = c.in_err-drawing.field-0.0 in
-    let inside = c.method.inside in
-    let with_cell = subst (λ (s : Choices). routing.HasCause
-    (drawing_outcome graph s.cell inside.spread inside.finest inside.straight) stop) c.settings.view_is c.in_err-drawing.ensures.cause
-    in
-    let cause = subst (λ (m : MethodChoices). routing.HasCause
-    (drawing_outcome graph c.args.settings.now.cell m.spread m.finest m.straight) stop) c.method.view_is with_cell in
+    let cause = subst (λ (p : DrawingPlan). routing.HasCause (drawing_outcome graph p) stop)
+    c.drawing_plan.ensures.plan c.in_err-drawing.ensures.cause in
     let same = err_from_is_err_and c.from_residual.result c.from_residual.ensures.1 in
     rw (same.1, same.2) (not_routed c.args.importance.now c.args.settings.now c.args.method.now graph stop cause)
 
@@ -64,11 +57,8 @@ returns-in_err-problem-clause-outcome c =
     let importance = c.args.importance.now in
     let choices = c.args.settings.now in
     let stop = c.in_err-problem.field-0.0 in
-    let inside = c.method.inside in
-    let with_cell = subst (λ (s : Choices). drawing_outcome graph s.cell inside.spread inside.finest inside.straight
-    ≡ Ok c.in_ok-drawing.drawing.walks) c.settings.view_is c.in_ok-drawing.ensures.drawing in
-    let routed = subst (λ (m : MethodChoices). drawing_outcome graph choices.cell m.spread m.finest m.straight
-    ≡ Ok c.in_ok-drawing.drawing.walks) c.method.view_is with_cell in
+    let routed = subst (λ (p : DrawingPlan). drawing_outcome graph p ≡ Ok c.in_ok-drawing.drawing.walks)
+    c.drawing_plan.ensures.plan c.in_ok-drawing.ensures.drawing in
     let counted : graph_problem graph c.settings.inside.weights importance ≡ problem_within importance choices graph =
     ap (λ (s : Choices). graph_problem graph s.weights importance) c.settings.view_is in
     let cause = subst (λ (o : Result ProblemParts Limit). terms.HasCause o stop) counted c.in_err-problem.ensures in
