@@ -29,7 +29,7 @@ pub fn read_settings(
 }
 
 /// The settings that a file with these bytes makes over those of a command, whatever its key `method` names.
-fn settings_over(
+pub fn settings_over(
     alloc: Global,
     bytes: &[u8],
     defaults: Defaults,
