@@ -46,7 +46,7 @@ fn standard(alloc: Global, options: &Options<'_>) -> Result<MapSettings, Refusal
 }
 
 /// What is set, over the settings of the command that it names.
-#[tactic(auto, using(map_settings::proofs::Named::read_over, map_settings::proofs::Named::refused_first))]
+#[tactic(auto, using(crate::proofs::SetLemmas::read_over, crate::proofs::SetLemmas::refused_first))]
 fn set_alone(alloc: Global, options: &Options<'_>) -> Result<MapSettings, SettingsFault>
     ensures { Reads result (texts_outcome options.now.defaults (sets_of options.now.words.now)) }
 {
@@ -97,7 +97,7 @@ fn settings_in(
 }
 
 /// The settings that the bytes of a file make, after what is set, over those of the command that they name.
-#[tactic(auto, using(map_settings::proofs::Named::read_over, map_settings::proofs::Named::refused_first))]
+#[tactic(auto, using(crate::proofs::SetLemmas::read_over, crate::proofs::SetLemmas::refused_first))]
 fn settings_of(
     alloc: Global,
     bytes: &[u8],
