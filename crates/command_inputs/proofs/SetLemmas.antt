@@ -1,11 +1,12 @@
 -- Settings after what is set, one text after another.
 use Rattle.std.proofs.Common.{◌≡◌, ℕ, List, [], ◌∷◌, Result, Ok, Err, refl, sym, ap, subst, ◌∙◌}
 use Rattle.map_method.specs.declared.map_settings.MapSettings.{MapSettings}
+use Rattle.map_method.specs.Defaults.{default_choices}
 use Rattle.map_settings.specs.declared.fault.SettingsWhy.{SettingsWhy}
 use Rattle.map_settings.specs.declared.fault.SettingsFault.{SettingsFault}
 use Rattle.map_settings.specs.declared.fault.SettingsFault.TheVariants as fault
 use Rattle.map_settings.specs.Faults.{Reads}
-use Rattle.map_settings.specs.Outcome.{set_outcome, sets_outcome}
+use Rattle.map_settings.specs.Outcome.{over_named, set_outcome, sets_outcome}
 
 abbrev Texts : Type 0
 Texts = List (List ℕ)
@@ -45,3 +46,13 @@ reads_after sets base file result made reads = subst (λ (f : Read). Reads resul
 pub refused_before : (sets : Texts) (why : SettingsFault) (file : Read) → Reads (Err why) file → Reads (Err why) (sets_outcome sets file)
 refused_before sets (fault.Bad why) file refused = ap (sets_outcome sets) refused ∙ sets_refused sets why
 refused_before sets fault.NoMemory file refused = tt
+
+-- where texts are refused at first, they are refused
+pub refused_first : (texts : Texts) (why : SettingsFault) (first : Read) → Reads (Err why) first → Reads (Err why) (over_named texts first)
+refused_first texts (fault.Bad why) first refused = ap (over_named texts) refused
+refused_first texts fault.NoMemory first refused = tt
+
+-- and else read over the settings of the command that they name
+pub read_over : (texts : Texts) (all : MapSettings) (first : Read) (result : Result MapSettings SettingsFault) → first ≡ Ok all
+    → Reads result (sets_outcome texts (Ok (default_choices all.defaults))) → Reads result (over_named texts first)
+read_over texts all first result is reads = subst (λ (r : Read). Reads result (over_named texts r)) (sym is) reads

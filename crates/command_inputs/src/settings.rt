@@ -15,7 +15,7 @@ use crate::inputs::Inputs;
 use command_paths::{Options, next_set};
 use files_door::Files;
 use map_method::{Defaults, MapSettings};
-use map_settings::{SettingsFault, SettingsWhy, set_settings};
+use map_settings::{SettingsFault, SettingsWhy, set_settings, settings_over};
 use run_status::{Input, Refusal};
 use std::alloc::Global;
 
@@ -46,7 +46,7 @@ fn standard(alloc: Global, options: &Options<'_>) -> Result<MapSettings, Refusal
 }
 
 /// What is set, over the settings of the command that it names.
-#[tactic(auto, using(map_settings::proofs::Named::read_over, map_settings::proofs::Named::refused_first))]
+#[tactic(auto, using(crate::proofs::SetLemmas::read_over, crate::proofs::SetLemmas::refused_first))]
 fn set_alone(alloc: Global, options: &Options<'_>) -> Result<MapSettings, SettingsFault>
     ensures { Reads result (texts_outcome options.now.defaults (sets_of options.now.words.now)) }
 {
@@ -97,7 +97,7 @@ fn settings_in(
 }
 
 /// The settings that the bytes of a file make, after what is set, over those of the command that they name.
-#[tactic(auto, using(map_settings::proofs::Named::read_over, map_settings::proofs::Named::refused_first))]
+#[tactic(auto, using(crate::proofs::SetLemmas::read_over, crate::proofs::SetLemmas::refused_first))]
 fn settings_of(
     alloc: Global,
     bytes: &[u8],
@@ -105,13 +105,13 @@ fn settings_of(
 ) -> Result<MapSettings, SettingsFault>
     ensures { Reads result (texts_outcome options.now.defaults (bytes.now ∷ sets_of options.now.words.now)) }
 {
-    let first = settings_over(alloc, bytes, options.words, options.defaults)?;
-    settings_over(alloc, bytes, options.words, first.defaults)
+    let first = file_over(alloc, bytes, options.words, options.defaults)?;
+    file_over(alloc, bytes, options.words, first.defaults)
 }
 
 /// The settings that the bytes of a file make, after what is set, over those of a command, whatever the key `method` names.
 #[tactic(auto, using(crate::proofs::SetLemmas::reads_after, crate::proofs::SetLemmas::refused_before))]
-fn settings_over(
+fn file_over(
     alloc: Global,
     bytes: &[u8],
     words: &[String],
@@ -119,9 +119,8 @@ fn settings_over(
 ) -> Result<MapSettings, SettingsFault>
     ensures { Reads result (sets_outcome (sets_of words.now) (set_outcome (default_choices defaults) bytes.now)) }
 {
-    let base = MapSettings::standard(alloc, defaults)?;
-    let file = set_settings(alloc, bytes, base)?;
-    with_sets(alloc, file, words)
+    let base = settings_over(alloc, bytes, defaults)?;
+    with_sets(alloc, base, words)
 }
 
 /// The settings after those that the words set, one after another.

@@ -4,7 +4,7 @@ use crate::paths::bytes_at;
 use command_paths::{Options, next_set};
 use map_base::NoMemory;
 use map_method::Defaults;
-use map_settings::{SettingsFault, read_settings};
+use map_settings::{SettingsFault, settings_over};
 use std::alloc::Global;
 use std::rt::Files;
 
@@ -67,7 +67,7 @@ fn refused_as<'a>(alloc: Global, set: &'a str) -> Result<Refused<'a>, NoMemory> 
 
 /// Whether a text of settings is refused.
 fn is_refused(alloc: Global, bytes: &[u8], defaults: Defaults) -> Result<bool, NoMemory> {
-    match read_settings(alloc, bytes, defaults) {
+    match settings_over(alloc, bytes, defaults) {
         Ok(_) => Ok(false),
         Err(SettingsFault::Bad(_)) => Ok(true),
         Err(SettingsFault::NoMemory) => Err(NoMemory),

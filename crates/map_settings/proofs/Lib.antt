@@ -2,6 +2,5 @@ pub mod ChangeLemmas
 mod EachLemmas
 mod ImportanceLemmas
 mod KeyLemmas
-pub mod Named
 mod TableLemmas
 mod TextLemmas

@@ -77,7 +77,3 @@ over_named texts (Err why) = Err why
 -- hold, and where that is missing too, these.
 abbrev pub texts_outcome : Defaults → List (List ℕ) → Result MapSettings SettingsWhy
 texts_outcome defaults texts = over_named texts (sets_outcome texts (Ok (default_choices defaults)))
-
--- what a file with these bytes makes
-abbrev pub settings_outcome : Defaults → List ℕ → Result MapSettings SettingsWhy
-settings_outcome defaults bytes = texts_outcome defaults (bytes ∷ [])

@@ -13,4 +13,4 @@ mod reading;
 mod values;
 
 pub use fault::{SettingsFault, SettingsWhy};
-pub use reading::{read_settings, set_settings};
+pub use reading::{set_settings, settings_over};

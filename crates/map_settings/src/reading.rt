@@ -5,7 +5,7 @@ ghost use Rattle.map_method.specs.Defaults.{default_choices};
 ghost use Rattle.map_settings.specs.Tables.{entries};
 ghost use Rattle.toml.specs.View.{table_view};
 ghost use Rattle.map_settings.specs.Faults.{Names, Reads, ReadsTable};
-ghost use Rattle.map_settings.specs.Outcome.{settings_outcome, set_outcome, table_outcome, entries_outcome};
+ghost use Rattle.map_settings.specs.Outcome.{set_outcome, table_outcome, entries_outcome};
 
 use crate::entries::change;
 use crate::fault::{EntryFault, SettingsFault, SettingsWhy};
@@ -14,22 +14,9 @@ use map_method::{Defaults, MapSettings};
 use std::alloc::Global;
 use toml::Table;
 
-/// The settings that a file with these bytes makes: those that its keys say, and for missing keys those of the command that
-/// its key `method` names, or else these.
-#[tactic(auto, using(crate::proofs::Named::refused_first, crate::proofs::Named::read_over))]
-pub fn read_settings(
-    alloc: Global,
-    bytes: &[u8],
-    defaults: Defaults,
-) -> Result<MapSettings, SettingsFault>
-    ensures { Reads result (settings_outcome defaults bytes.now) }
-{
-    let first = settings_over(alloc, bytes, defaults)?;
-    settings_over(alloc, bytes, first.defaults)
-}
-
-/// The settings that a file with these bytes makes over those of a command, whatever its key `method` names.
-fn settings_over(
+/// The settings that a file with these bytes makes over those of a command: those that its keys say, and the command's for
+/// missing keys, whatever the key `method` names.
+pub fn settings_over(
     alloc: Global,
     bytes: &[u8],
     defaults: Defaults,

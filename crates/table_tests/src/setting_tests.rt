@@ -1,13 +1,13 @@
 //! Settings files that are read or refused.
 
 use map_method::{Defaults, MapSettings};
-use map_settings::{SettingsFault, read_settings};
+use map_settings::{SettingsFault, settings_over};
 use std::alloc::{AllocError, Global};
 use std::test::Fail;
 
 /// The settings that a file makes beside the defaults of `make`.
 fn read(alloc: Global, file: &str) -> Result<MapSettings, SettingsFault> {
-    read_settings(alloc, file.as_bytes(), Defaults::Make)
+    settings_over(alloc, file.as_bytes(), Defaults::Make)
 }
 
 #[test]
