@@ -48,8 +48,8 @@ use Rattle.graph_maps.specs.Subjects.{told_by, Subject}
 use Rattle.exchange_laws.specs.Exchanged.{made_of, AreAlike}
 use Rattle.exchange_laws.proofs.Certificates.{same_count, same_weighty}
 use Rattle.exchange_laws.proofs.NodeKinds.{count_again, same_kind, IsSameKind}
-use Rattle.exchange_laws.proofs.Moves.{same_walks, with_kinds}
-use Rattle.exchange_laws.proofs.Straight.{same_drawing}
+use Rattle.exchange_laws.proofs.Routes.{with_kinds}
+use Rattle.exchange_laws.proofs.Straight.{same_drawing, same_walks}
 use Rattle.exchange_laws.proofs.Numbers.{AreBelow, each_listed, few_listed, importance_up_to, length_up_to, names_up_to, same_colour, same_importance, same_name}
 use Rattle.exchange_laws.proofs.Orders.{lifted_orders, orders_below}
 use Rattle.exchange_laws.proofs.Pictures.{at_list, same_picture}
