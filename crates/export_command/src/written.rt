@@ -5,7 +5,7 @@ ghost use Rattle.map_base.specs.Faults.{HasCause};
 ghost use Rattle.transit_feed.specs.declared.line.Line.{Line as FeedLine};
 ghost use Rattle.hex.specs.Hex.{IsBytes};
 ghost use Rattle.line_graph.specs.Outcome.{graph_outcome};
-ghost use Rattle.exchange_laws.specs.Exchanged.{IsExported};
+ghost use Rattle.export_command.specs.Exchanged.{IsExported};
 
 use graph_json::write_graph;
 use line_graph::build;

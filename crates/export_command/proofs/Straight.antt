@@ -24,7 +24,7 @@ use Rattle.run_laying.specs.Searches.{after_passes, attempts_alone, searched, Fo
 use Rattle.kept_walks.specs.Straightening.{moves_of, moves_over, single_runs, straight_attempts, straight_scale, straightened}
 use Rattle.kept_walks.specs.Moves.{improved, move_attempts, moves_scale}
 use Rattle.kept_walks.specs.Drawings.{drawing_outcome, straightened_routes}
-use Rattle.exchange_laws.proofs.Routes.{same_routes, with_kinds}
+use Rattle.export_command.proofs.Routes.{same_routes, with_kinds}
 
 module _ (g : GraphParts) (kinds : List NodeKind) (count : length kinds ≡ length g.kinds) where
   abbrev h : GraphParts

@@ -27,8 +27,8 @@ use Rattle.command_inputs.specs.Loading.{file_outcome, file_work, load_work, set
 use Rattle.map_commands.specs.MapWorks.{made_at, make_work}
 use Rattle.export_command.specs.ExportWorks.{export_work, exported, file_outputs}
 use Rattle.map_commands.specs.ImportWorks.{graph_in, graph_work, import_work, imported_at, map_at, read_work, with_graph}
-use Rattle.exchange_laws.specs.Exchanged.{feed_again, made_of, AreAlike, IsExported}
-use Rattle.exchange_laws.specs.Works.{no_page, unless_long}
+use Rattle.export_command.specs.Exchanged.{feed_again, made_of, AreAlike, IsExported}
+use Rattle.run_laws.specs.Works.{no_page, unless_long}
 
 -- what comes of a result, unless it is a refusal
 abbrev followed : {A B : Type 0} → Result A Refusal → (A → Result B Refusal) → Result B Refusal

@@ -8,7 +8,7 @@ use Rattle.map_base.specs.declared.ids.LineId.{LineId}
 use Rattle.graph_core.specs.declared.parts.GraphParts.{GraphParts}
 use Rattle.order_model.specs.Places.{has_line}
 use Rattle.graph_maps.specs.Certificates.{drawn_lines, is_drawn, is_weighty, line_count, line_numbered, weighed_line, weighty_lines}
-use Rattle.exchange_laws.proofs.Numbers.{AreBelow}
+use Rattle.export_command.proofs.Numbers.{AreBelow}
 
 module _ (g : GraphParts) (n : ℕ) (low : AreBelow n g.lines) where
   not_on : (j : ℕ) → n ≤ j → (lines : List LineId) → ByRecursion (λ (l : LineId). l.0 < n) lines

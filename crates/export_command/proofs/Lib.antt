@@ -9,4 +9,3 @@ mod Pictures
 mod Certificates
 mod MadeAgain
 mod FeedAgain
-mod AfterExport

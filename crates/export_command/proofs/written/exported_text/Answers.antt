@@ -3,9 +3,9 @@ use Rattle.map_base.specs.Settings.{AreInRange}
 use Rattle.transit_feed.specs.declared.line.Line.{Line}
 use Rattle.transit_feed.specs.Feeds.{IsFeed}
 use Rattle.hex.specs.Hex.{IsBytes}
-use Rattle.exchange_laws.specs.Exchanged.{AreColoured}
-use Rattle.exchange_laws.proofs.FeedAgain.{exported_is}
-use Rattle.exchange_laws.proofs.written.exported.Goals as goal
+use Rattle.export_command.specs.Exchanged.{AreColoured}
+use Rattle.export_command.proofs.FeedAgain.{exported_is}
+use Rattle.export_command.proofs.written.exported_text.Goals as goal
 
 -- the colours of these lines are three bytes
 abbrev HaveColours : List Line → Type 0

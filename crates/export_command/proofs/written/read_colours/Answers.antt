@@ -3,7 +3,7 @@ use Rattle.std.proofs.lemmas.List.{take_all}
 use Rattle.std.proofs.lemmas.List.Elements.{All-more}
 use Rattle.transit_feed.specs.declared.line.Line.{Line}
 use Rattle.hex.specs.Hex.{IsBytes}
-use Rattle.exchange_laws.proofs.written.read_colours.Goals as goal
+use Rattle.export_command.proofs.written.read_colours.Goals as goal
 
 -- the colour of a line is three bytes
 abbrev HasColour : Line → Type 0

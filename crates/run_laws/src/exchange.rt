@@ -12,8 +12,8 @@ ghost use Rattle.command_inputs.specs.Loading.{load_work, settings_by};
 ghost use Rattle.map_commands.specs.MapWorks.{make_work};
 ghost use Rattle.export_command.specs.ExportWorks.{export_work, file_outputs};
 ghost use Rattle.map_commands.specs.ImportWorks.{import_work};
-ghost use Rattle.exchange_laws.specs.Exchanged.{AreAlike, IsExported};
-ghost use Rattle.exchange_laws.specs.Works.{no_page, unless_long};
+ghost use Rattle.export_command.specs.Exchanged.{AreAlike, IsExported};
+ghost use Rattle.run_laws.specs.Works.{no_page, unless_long};
 
 /// Where `export` writes a file, `import` of that file comes to what `make` comes to over the inputs of `export`, under
 /// settings that agree: the same map and certificate, or the same refusal. A file above the limit is refused for its

@@ -1,5 +1,5 @@
-use Rattle.exchange_laws.proofs.MadeAgain.{made_again}
-use Rattle.exchange_laws.proofs.laws.a_graph_that_is_read_again_makes_the_same_map.Goals as goal
+use Rattle.export_command.proofs.MadeAgain.{made_again}
+use Rattle.export_command.proofs.laws.a_graph_that_is_read_again_makes_the_same_map.Goals as goal
 
 pub returns : goal.returns
 returns c = λ graph names importance choices other method fit have light alike.

@@ -1,5 +1,5 @@
-use Rattle.exchange_laws.proofs.FeedAgain.{feed_made_again}
-use Rattle.exchange_laws.proofs.laws.what_is_exported_makes_the_map_of_the_feed.Goals as goal
+use Rattle.export_command.proofs.FeedAgain.{feed_made_again}
+use Rattle.export_command.proofs.laws.what_is_exported_makes_the_map_of_the_feed.Goals as goal
 
 pub returns : goal.returns
 returns c = λ feed choices other method graph fit range of_feed alike.

@@ -1,7 +1,7 @@
 use Rattle.std.proofs.Common.{◌≡◌, length, take, All}
 use Rattle.transit_feed.specs.declared.line.Line.{Line as FeedLine}
 use Rattle.hex.specs.Hex.{IsBytes}
-use Rattle.exchange_laws.proofs.written.read_colours.Given as goal
+use Rattle.export_command.proofs.written.read_colours.Given as goal
 
 -- the lines so far
 abbrev pub invariant-loop-line : goal.invariant-loop-line

@@ -14,7 +14,7 @@ ghost use Rattle.graph_maps.specs.Subjects.{told_by};
 ghost use Rattle.graph_maps.specs.Making.{made_on};
 ghost use Rattle.map_engine.specs.Tables.{importance_by, names_by};
 ghost use Rattle.map_engine.specs.Making.{make_outcome};
-ghost use Rattle.exchange_laws.specs.Exchanged.{feed_again, made_of, AreAlike, AreColoured};
+ghost use Rattle.export_command.specs.Exchanged.{feed_again, made_of, AreAlike, AreColoured};
 
 /// Of what the file of a line graph is read as the map is made that is made of the graph, with the same certificate, or
 /// none for the same cause, under all settings that agree in weights, cell and budget. Its stations have other numbers,

@@ -33,8 +33,8 @@ use Rattle.kept_trees.proofs.PutOrders.{orders_put}
 use Rattle.graph_maps.specs.Lifted.{lifted_by}
 use Rattle.graph_maps.specs.Problems.{untangled_problem, untangling_rules}
 use Rattle.graph_maps.specs.Solving.{orders_by, parts_in, solve_from, solve_outcome, solved, solved_first, with_parts, SolvedPart}
-use Rattle.exchange_laws.proofs.DualOrders.{found_are_orders}
-use Rattle.exchange_laws.proofs.Numbers.{AreBelow}
+use Rattle.export_command.proofs.DualOrders.{found_are_orders}
+use Rattle.export_command.proofs.Numbers.{AreBelow}
 
 -- orders of a part by itself, put in place
 put : (segs : List (List LineId)) (part : List SegId) (lists orders : List (List LineId))

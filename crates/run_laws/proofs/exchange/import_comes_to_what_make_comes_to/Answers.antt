@@ -1,5 +1,5 @@
-use Rattle.exchange_laws.proofs.AfterExport.{exports, imports, refused_alike}
-use Rattle.exchange_laws.proofs.comes.import_comes_to_what_make_comes_to.Goals as goal
+use Rattle.run_laws.proofs.AfterExport.{exports, imports, refused_alike}
+use Rattle.run_laws.proofs.exchange.import_comes_to_what_make_comes_to.Goals as goal
 
 pub returns : goal.returns
 returns c = record {

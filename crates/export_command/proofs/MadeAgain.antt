@@ -45,15 +45,15 @@ use Rattle.graph_maps.specs.Moving.{after_moves, walks_after}
 use Rattle.graph_maps.specs.Problems.{drawn_with, routed_by, untangled_problem, Drawn}
 use Rattle.graph_maps.specs.Solving.{solve_outcome, SolvedPart}
 use Rattle.graph_maps.specs.Subjects.{told_by, Subject}
-use Rattle.exchange_laws.specs.Exchanged.{made_of, AreAlike}
-use Rattle.exchange_laws.proofs.Certificates.{same_count, same_weighty}
-use Rattle.exchange_laws.proofs.NodeKinds.{count_again, same_kind, IsSameKind}
-use Rattle.exchange_laws.proofs.Routes.{with_kinds}
-use Rattle.exchange_laws.proofs.Straight.{same_drawing, same_walks}
-use Rattle.exchange_laws.proofs.Numbers.{AreBelow, each_listed, few_listed, importance_up_to, length_up_to, names_up_to, same_colour, same_importance, same_name}
-use Rattle.exchange_laws.proofs.Orders.{lifted_orders, orders_below}
-use Rattle.exchange_laws.proofs.Pictures.{at_list, same_picture}
-use Rattle.exchange_laws.proofs.Terms.{same_problem}
+use Rattle.export_command.specs.Exchanged.{made_of, AreAlike}
+use Rattle.export_command.proofs.Certificates.{same_count, same_weighty}
+use Rattle.export_command.proofs.NodeKinds.{count_again, same_kind, IsSameKind}
+use Rattle.export_command.proofs.Routes.{with_kinds}
+use Rattle.export_command.proofs.Straight.{same_drawing, same_walks}
+use Rattle.export_command.proofs.Numbers.{AreBelow, each_listed, few_listed, importance_up_to, length_up_to, names_up_to, same_colour, same_importance, same_name}
+use Rattle.export_command.proofs.Orders.{lifted_orders, orders_below}
+use Rattle.export_command.proofs.Pictures.{at_list, same_picture}
+use Rattle.export_command.proofs.Terms.{same_problem}
 
 -- the weights at nodes of one kind are the same
 weights_of : (ws : List Weights) (old new : Names) (a b : NodeKind) → IsSameKind old new a b

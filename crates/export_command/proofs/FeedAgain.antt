@@ -27,9 +27,9 @@ use Rattle.graph_maps.specs.Making.{if_solved, solved_map, solved_of}
 use Rattle.graph_maps.specs.Problems.{drawn_on}
 use Rattle.map_engine.specs.Making.{make_outcome, over_graph}
 use Rattle.map_engine.specs.Tables.{importance_among, importance_by, names_by, subject_of}
-use Rattle.exchange_laws.specs.Exchanged.{feed_again, made_of, AreAlike, AreColoured, IsExported}
-use Rattle.exchange_laws.proofs.MadeAgain.{made_again}
-use Rattle.exchange_laws.proofs.Numbers.{few_listed}
+use Rattle.export_command.specs.Exchanged.{feed_again, made_of, AreAlike, AreColoured, IsExported}
+use Rattle.export_command.proofs.MadeAgain.{made_again}
+use Rattle.export_command.proofs.Numbers.{few_listed}
 
 -- the number of a pair is one that a line may have
 abbrev HasNumber : List ℕ × ℕ → Type 0
