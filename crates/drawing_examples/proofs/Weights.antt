@@ -5,7 +5,9 @@ use Rattle.graph_core.specs.declared.parts.GraphParts.{GraphParts}
 use Rattle.octi_grid.specs.declared.dir.Dir.TheVariants as dir
 use Rattle.octi_grid.specs.declared.point.GridPoint.{GridPoint}
 use Rattle.octi_grid.specs.Walks.{PlainWalk}
-use Rattle.drawing_weights.specs.Weights.{least_weight, point_of, walk_weight, weight_of}
+use Rattle.drawing_weights.specs.Scales.{walk_weight_by, weight_by}
+use Rattle.drawing_weights.specs.Weights.{least_weight, point_of}
+use Rattle.kept_walks.specs.Moves.{moves_scale}
 
 abbrev at : ℤ → ℤ → GridPoint
 at x y = record { x = x; y = y }
@@ -32,15 +34,15 @@ straight =
     record { start = at (pos 0) (pos 0); steps = replicate 16 dir.E }
     ∷ record { start = at (pos 16) (pos 0); steps = replicate 16 dir.E } ∷ []
 
-bent_weighs : weight_of row bent bent ≡ 150
+bent_weighs : weight_by moves_scale row bent bent ≡ 150
 bent_weighs = refl
 
 -- 128 for the walks, and 12 for the node that moved by two steps
-straight_weighs : weight_of row bent straight ≡ 140
+straight_weighs : weight_by moves_scale row bent straight ≡ 140
 straight_weighs = refl
 
 -- a turn by 90 degrees counts 2, and eight times that
-corner : walk_weight (record { start = at (pos 0) (pos 0); steps = dir.N ∷ dir.N ∷ dir.E ∷ dir.E ∷ [] }) ≡ 34
+corner : walk_weight_by moves_scale (record { start = at (pos 0) (pos 0); steps = dir.N ∷ dir.N ∷ dir.E ∷ dir.E ∷ [] }) ≡ 34
 corner = refl
 
 -- two steps aslant and fourteen along an axis, with a turn

@@ -1,7 +1,7 @@
 mod DualOrders
 mod Numbers
 mod NodeKinds
-mod Moves
+mod Routes
 mod Straight
 mod Terms
 mod Orders

@@ -48,8 +48,8 @@ use Rattle.graph_maps.specs.Subjects.{told_by, Subject}
 use Rattle.export_command.specs.Exchanged.{made_of, AreAlike}
 use Rattle.export_command.proofs.Certificates.{same_count, same_weighty}
 use Rattle.export_command.proofs.NodeKinds.{count_again, same_kind, IsSameKind}
-use Rattle.export_command.proofs.Moves.{same_walks, with_kinds}
-use Rattle.export_command.proofs.Straight.{same_drawing}
+use Rattle.export_command.proofs.Routes.{with_kinds}
+use Rattle.export_command.proofs.Straight.{same_drawing, same_walks}
 use Rattle.export_command.proofs.Numbers.{AreBelow, each_listed, few_listed, importance_up_to, length_up_to, names_up_to, same_colour, same_importance, same_name}
 use Rattle.export_command.proofs.Orders.{lifted_orders, orders_below}
 use Rattle.export_command.proofs.Pictures.{at_list, same_picture}

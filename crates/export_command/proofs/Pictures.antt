@@ -14,7 +14,7 @@ use Rattle.svg_writer.specs.Elements.{texts, Element, Head, Label, OnSegment, Ta
 use Rattle.svg_writer.specs.Picture.{all_joins, all_labels, all_lines, all_markers, beside, between, bounds_of, colour_of, grid_courses, join_elements, joins_at, kind_at, label, line_elements, line_end, marker, name_of, node_joins, picture_text, radius_in, segment_elements}
 use Rattle.svg_writer.specs.Styles.{grid_style}
 use Rattle.export_command.proofs.NodeKinds.{IsSameKind}
-use Rattle.export_command.proofs.Moves.{with_kinds}
+use Rattle.export_command.proofs.Routes.{with_kinds}
 use Rattle.export_command.proofs.Numbers.{AreBelow}
 
 flat_same : {A B : Type 0} (f g : A → List B) → ((x : A) → f x ≡ g x) → (xs : List A) → flat_map f xs ≡ flat_map g xs

@@ -1,4 +1,4 @@
--- A graph whose nodes have other kinds, but as many of them, is straightened to the same walks.
+-- A graph whose nodes have other kinds, but as many of them, is straightened and moved to the same walks.
 use Rattle.std.proofs.Common.{◌≡◌, ◌∙◌, ap, refl, ℕ, zero, suc, Bool, List, [], ◌∷◌, length, map, Option, Some, None, Result, Ok, Err}
 use Rattle.std.specs.Prelude.{◌+◌, ◌&&◌, ◌++◌, nat_le, not, filter, fold, take, drop, if◌then◌else◌}
 use Rattle.std.specs.List.{flat_map, list_any, range_with_len, sum_by}
@@ -21,9 +21,10 @@ use Rattle.run_laying.specs.Pieces.{even_steps, pieces_of}
 use Rattle.run_laying.specs.Laying.{all_laid, board_under, if_laid, laid, laid_along, run_walk, with_piece, with_pieces, Sketch}
 use Rattle.run_laying.specs.Attempts.{attempted, attempted_on, bounds_past, if_lighter, improving, may_move, point_in_attempt, walk_beside, walks_in, is_inner, without_runs, Attempt}
 use Rattle.run_laying.specs.Searches.{after_passes, attempts_alone, searched, Found}
-use Rattle.kept_walks.specs.Straightening.{moves_over, single_runs, straight_attempts, straight_scale, straightened}
+use Rattle.kept_walks.specs.Straightening.{moves_of, moves_over, single_runs, straight_attempts, straight_scale, straightened}
+use Rattle.kept_walks.specs.Moves.{improved, move_attempts, moves_scale}
 use Rattle.kept_walks.specs.Drawings.{drawing_outcome, straightened_routes}
-use Rattle.export_command.proofs.Moves.{same_routes, with_kinds}
+use Rattle.export_command.proofs.Routes.{same_routes, with_kinds}
 
 module _ (g : GraphParts) (kinds : List NodeKind) (count : length kinds ≡ length g.kinds) where
   abbrev h : GraphParts
@@ -135,10 +136,10 @@ module _ (g : GraphParts) (kinds : List NodeKind) (count : length kinds ≡ leng
   same_improving bounds scale first walks a = λ i.
       if_lighter (λ w. same_weight_by scale first w i) walks (same_attempted bounds walks a i)
 
-  same_search : (scale : Scale) (attempts : List Attempt) (most : ℕ) (walks : List PlainWalk)
-      → searched h scale 20 attempts most most walks ≡ searched g scale 20 attempts most most walks
-  same_search scale attempts most walks = λ i.
-      after_passes (λ w a. same_improving (bounds_past 20 walks) scale walks w a i) attempts most most most (record { walks = walks; made = 0 })
+  same_search : (scale : Scale) (margin : ℕ) (attempts : List Attempt) (at_once most : ℕ) (walks : List PlainWalk)
+      → searched h scale margin attempts at_once most walks ≡ searched g scale margin attempts at_once most walks
+  same_search scale margin attempts at_once most walks = λ i.
+      after_passes (λ w a. same_improving (bounds_past margin walks) scale walks w a i) attempts at_once most most (record { walks = walks; made = 0 })
 
   same_asked : (cell most : ℕ) (walks : List PlainWalk) → straightened h cell most walks
       ≡ searched h (straight_scale (corners_of g cell)) 20 (straight_attempts g (corners_of g cell)) most most walks
@@ -148,7 +149,7 @@ module _ (g : GraphParts) (kinds : List NodeKind) (count : length kinds ≡ leng
   same_found : (cell most : ℕ) (walks : List PlainWalk) → straightened h cell most walks ≡ straightened g cell most walks
   same_found cell most walks =
       same_asked cell most walks
-      ∙ same_search (straight_scale (corners_of g cell)) (straight_attempts g (corners_of g cell)) most walks
+      ∙ same_search (straight_scale (corners_of g cell)) 20 (straight_attempts g (corners_of g cell)) most most walks
 
   same_straightened : (cell straight : ℕ) (o : Result (List PlainWalk) RouteFault)
       → straightened_routes h cell straight o ≡ straightened_routes g cell straight o
@@ -160,3 +161,14 @@ module _ (g : GraphParts) (kinds : List NodeKind) (count : length kinds ≡ leng
   same_drawing plan =
       ap (straightened_routes h plan.cell plan.straight) (same_routes g kinds plan)
       ∙ same_straightened plan.cell plan.straight (route_outcome g plan)
+
+  -- ---- moves
+
+  same_moves : move_attempts h ≡ move_attempts g
+  same_moves = ap (flat_map (λ n. moves_of 1 (single_runs g) (n ∷ []))) same_nodes
+
+  -- the walks after moves
+  pub same_walks : (moves : ℕ) (walks : List PlainWalk) → (improved h walks moves).walks ≡ (improved g walks moves).walks
+  same_walks moves walks =
+      ap (λ (attempts : List Attempt). (searched h moves_scale 4 attempts 1 moves walks).walks) same_moves
+      ∙ ap (λ (f : Found). f.walks) (same_search moves_scale 4 (move_attempts g) 1 moves walks)

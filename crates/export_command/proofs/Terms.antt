@@ -17,7 +17,7 @@ use Rattle.order_model.specs.declared.term.Term.{Term}
 use Rattle.order_terms.specs.Terms.{found_at, graph_terms, in_order, term_of, terms_at, terms_below, weights_at, HaveImportance, IsWithinGraph}
 use Rattle.order_terms.specs.Limits.{graph_problem}
 use Rattle.order_terms.proofs.GraphProblem.{found_within, weights_light}
-use Rattle.export_command.proofs.Moves.{with_kinds}
+use Rattle.export_command.proofs.Routes.{with_kinds}
 
 -- two lists of importances tell the same of the lines that have one in the first
 abbrev pub AgreeOn : List ℕ → List ℕ → Type 0

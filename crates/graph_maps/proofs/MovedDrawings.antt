@@ -1,12 +1,12 @@
 -- Drawings after moves.
-use Rattle.std.proofs.Common.{◌≡◌, ◌∙◌, ap, subst, ◌⊎◌, ℕ, None}
+use Rattle.std.proofs.Common.{◌≡◌, ◌∙◌, ap, subst, ◌⊎◌, ℕ}
 use Rattle.std.specs.Prelude.{List}
 use Rattle.map_base.specs.Settings.{Choices}
 use Rattle.kept_trees.specs.declared.plan.SearchPlan.{SearchPlan}
 use Rattle.octi_grid.specs.Walks.{PlainWalk}
 use Rattle.octi_grid.specs.declared.drawing.Drawing.{Drawing}
 use Rattle.graph_core.specs.declared.parts.GraphParts.{GraphParts}
-use Rattle.octi_moves.specs.Moves.{next_of}
+use Rattle.kept_walks.specs.Moves.{NoMoveImproves}
 use Rattle.graph_maps.specs.declared.improvement.Improvement.{Improvement}
 use Rattle.graph_maps.specs.Problems.{Drawn}
 use Rattle.graph_maps.specs.Subjects.{Subject}
@@ -47,7 +47,7 @@ written_by subject graph walks best first moves once twice map one two made =
       drawing = subst (IsDrawing graph) last two.drawing;
       improvement = two.improvement ∙ ap (improvement_of moves graph) one.drawn;
       no_heavier = two.no_heavier;
-      to_the_end = subst (λ (ws : List PlainWalk). (twice.1.made ≡ moves) ⊎ (next_of graph start ws ≡ None)) last
-          (subst (λ (ws : List PlainWalk). (twice.1.made ≡ moves) ⊎ (next_of graph ws twice.0.walks ≡ None)) one.drawn
+      to_the_end = subst (λ (ws : List PlainWalk). (twice.1.made ≡ moves) ⊎ NoMoveImproves graph start ws) last
+          (subst (λ (ws : List PlainWalk). (twice.1.made ≡ moves) ⊎ NoMoveImproves graph ws twice.0.walks) one.drawn
           two.to_the_end);
     }

@@ -1,10 +1,10 @@
 -- The map of a line graph after more moves on its drawing.
-use Rattle.std.specs.Prelude.{◌≡◌, ◌≤◌, ◌⊎◌, ℕ, Result, None, Ok}
+use Rattle.std.specs.Prelude.{◌≡◌, ◌≤◌, ◌⊎◌, ℕ, Result, Ok}
 use Rattle.map_base.specs.Settings.{Choices}
 use Rattle.map_method.specs.Methods.{MethodChoices}
 use Rattle.graph_core.specs.declared.parts.GraphParts.{GraphParts}
 use Rattle.graph_maps.specs.Subjects.{Subject}
-use Rattle.octi_moves.specs.Moves.{next_of}
+use Rattle.kept_walks.specs.Moves.{NoMoveImproves}
 use Rattle.map_faults.specs.declared.fault.MakeFault.{MakeFault}
 use Rattle.graph_maps.specs.declared.improvement.Improvement.{Improvement}
 use Rattle.graph_maps.specs.declared.improvement.ImprovedMap.{ImprovedMap}
@@ -36,7 +36,7 @@ improved_bytes improved = record { map = bytes_of improved.map; improvement = im
 
 -- all moves were made, or none makes the drawing lighter
 abbrev pub IsAtTheEnd : ℕ → Drawn → ℕ → Type 0
-IsAtTheEnd moves drawn made = (made ≡ moves) ⊎ (next_of drawn.graph drawn.walks (after_moves moves drawn).walks ≡ None)
+IsAtTheEnd moves drawn made = (made ≡ moves) ⊎ NoMoveImproves drawn.graph drawn.walks (after_moves moves drawn).walks
 
 -- What moves promise of a map: it is one that is made, so it shows exactly the line graph, with what its certificate
 -- proves of the line orders, and the check says yes to it and its certificate. Its drawing is no heavier than before,

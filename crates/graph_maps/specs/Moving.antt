@@ -2,8 +2,8 @@
 use Rattle.std.specs.Prelude.{ℕ, List}
 use Rattle.graph_core.specs.declared.parts.GraphParts.{GraphParts}
 use Rattle.octi_grid.specs.Walks.{PlainWalk}
-use Rattle.drawing_weights.specs.Weights.{weight_of}
-use Rattle.octi_moves.specs.Moves.{improved}
+use Rattle.drawing_weights.specs.Scales.{weight_by}
+use Rattle.kept_walks.specs.Moves.{improved, moves_scale}
 use Rattle.graph_maps.specs.declared.improvement.Improvement.{Improvement}
 use Rattle.graph_maps.specs.Problems.{Drawn}
 
@@ -18,7 +18,7 @@ after_moves moves drawn = record drawn { walks = walks_after moves drawn.graph d
 -- what a drawing weighs before at most so many moves and after them, and how many are made
 abbrev pub improvement_of : ℕ → GraphParts → List PlainWalk → Improvement
 improvement_of moves graph walks = record {
-  before = weight_of graph walks walks;
-  after = weight_of graph walks (walks_after moves graph walks);
+  before = weight_by moves_scale graph walks walks;
+  after = weight_by moves_scale graph walks (walks_after moves graph walks);
   made = (improved graph walks moves).made;
 }

@@ -13,7 +13,7 @@ use Rattle.octi_grid.specs.declared.drawing.Drawing.{Drawing}
 use Rattle.octi_grid.specs.Walks.{IsWalk, PlainWalk}
 use Rattle.octi_grid.specs.Legal.{first_illegal, legal}
 use Rattle.grid_board.specs.Points.{are_near}
-use Rattle.octi_moves.specs.Moves.{next_of}
+use Rattle.kept_walks.specs.Moves.{NoMoveImproves}
 use Rattle.order_model.specs.Costs.{cost_of, AreOrders}
 use Rattle.svg_writer.specs.Picture.{picture_text}
 use Rattle.cert_file.specs.Plain.{PlainCertificate}
@@ -59,7 +59,7 @@ pub record IsMoved (moves : ℕ) (graph : GraphParts) (walks : List PlainWalk)
   pub near : (most : ℕ) → are_near most walks ≡ true → are_near (most + 4) moved.0.walks ≡ true
   pub improvement : moved.1 ≡ improvement_of moves graph walks
   pub no_heavier : moved.1.after ≤ moved.1.before
-  pub to_the_end : (moved.1.made ≡ moves) ⊎ (next_of graph walks moved.0.walks ≡ None)
+  pub to_the_end : (moved.1.made ≡ moves) ⊎ NoMoveImproves graph walks moved.0.walks
 
 -- the parts of a proof without where they lie in memory
 abbrev pub plain_parts : Solution → List PlainPart
@@ -150,7 +150,7 @@ pub record IsWritten (subject : Subject) (graph : GraphParts) (walks : List Plai
   pub improvement : improved.improvement ≡ improvement_of moves graph (walks_after first graph walks)
   pub no_heavier : improved.improvement.after ≤ improved.improvement.before
   pub to_the_end : (improved.improvement.made ≡ moves)
-      ⊎ (next_of graph (walks_after first graph walks) (walks_after moves graph (walks_after first graph walks)) ≡ None)
+      ⊎ NoMoveImproves graph (walks_after first graph walks) (walks_after moves graph (walks_after first graph walks))
 
 -- solved parts before what comes of those after them
 abbrev pub prepended : List SolvedPart → Result (List SolvedPart) MakeFault → Result (List SolvedPart) MakeFault

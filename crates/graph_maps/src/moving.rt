@@ -7,9 +7,9 @@ ghost use Rattle.graph_maps.specs.Stages.{IsDrawing, IsMoved};
 use crate::drawing::are_walks;
 use crate::improvement::Improvement;
 use graph_core::LineGraph;
+use kept_walks::improve;
 use map_base::NoMemory;
 use octi_grid::{Drawing, illegal_drawings_have_a_first_walk};
-use octi_moves::improve;
 use std::alloc::Global;
 
 /// A drawing after at most so many moves, each the first that makes it lighter, and what they made of it.

@@ -6,10 +6,12 @@ mod Turned
 mod Rings
 mod Corners
 mod ChainRuns
--- so the attempts of a pass fit the graph
+-- so nodes are served by runs, and the attempts of a pass fit the graph
+mod Serving
 mod Fitting
--- groups one after another, and what straightening promises
+-- groups one after another, where a search ends, and what straightening and moves promise
 mod Pushed
+mod Ending
 pub mod Promised
 -- copies and comparisons of graphs and walks, and the drawing that routes come to
 mod Lists

@@ -1,5 +1,6 @@
 -- Groups that are listed one after another, and their attempts.
 use Rattle.std.proofs.Common.{◌≡◌, refl, sym, ◌∙◌, ap, ℕ, zero, suc, ◌+◌, ◌<◌, Bool, true, false, cond, List, [], ◌∷◌, ◌++◌, length, filter, map, drop, get_or, append_assoc, append-nil, arith}
+use Rattle.std.proofs.lemmas.Bool.{ne_eqb}
 use Rattle.std.proofs.lemmas.List.{drop_more, flat_map_more}
 use Rattle.std.proofs.lemmas.List.Elements.{filter-append}
 use Rattle.std.proofs.lemmas.List.FromFn.{map-range_with_len_more}
@@ -11,15 +12,24 @@ use Rattle.graph_core.specs.declared.parts.GraphParts.{GraphParts}
 use Rattle.graph_core.specs.Consistent.{IsConsistent}
 use Rattle.line_chains.specs.declared.chain.Chain.{Chain}
 use Rattle.line_chains.specs.Chains.{end_of, ends_of, is_corner}
+use Rattle.octi_grid.specs.declared.dir.Dir.TheVariants as dir
 use Rattle.segment_router.proofs.Places.{in_at}
 use Rattle.run_laying.specs.Attempts.{run_of, Attempt}
-use Rattle.run_laying.specs.Searches.{attempts_alone}
+use Rattle.run_laying.specs.Searches.{attempts_alone, attempts_by}
 use Rattle.drawing_search.specs.declared.group.Group.{Group}
 use Rattle.drawing_search.specs.Changes.{AreApart}
 use Rattle.drawing_search.specs.Searched.{attempts_in, attempts_of}
 use Rattle.kept_walks.specs.Groups.{all_nodes}
 use Rattle.kept_walks.specs.Straightening.{single_runs}
-use Rattle.kept_walks.proofs.Fitting.{single_is}
+use Rattle.kept_walks.proofs.Serving.{single_is}
+
+-- a group whose nodes move
+abbrev at_rest : Group → List Attempt
+at_rest g = record { nodes = g.nodes; dir = dir.N; count = 0; runs = g.runs } ∷ []
+
+pub attempts_moved : (g : Group) → 0 < g.lengths → attempts_in g ≡ attempts_by g.lengths g.nodes g.runs
+attempts_moved g some =
+    ap (λ b. cond b (at_rest g) (attempts_by g.lengths g.nodes g.runs)) (ne_eqb g.lengths 0 (λ e. omega (arith, e, some)))
 
 pub one_group_more : (gs : List Group) (g : Group) → attempts_of (gs ++ g ∷ []) ≡ attempts_of gs ++ attempts_in g
 one_group_more gs g = sym (flat_map_more attempts_in [] gs g)

@@ -1,5 +1,6 @@
--- Lines that run straight through their stations, and the drawing that is kept.
+-- Lines that run straight through their stations, nodes that move, and the drawing that is kept.
+pub mod Lighter
 pub mod Straightening
-pub mod Straightened
+pub mod Moves
 pub mod Groups
 pub mod Drawings

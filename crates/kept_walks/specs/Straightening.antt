@@ -10,6 +10,8 @@ use Rattle.octi_grid.specs.Walks.{PlainWalk}
 use Rattle.drawing_weights.specs.Scales.{Scale}
 use Rattle.run_laying.specs.Attempts.{has_node, run_of, Attempt}
 use Rattle.run_laying.specs.Searches.{attempts_alone, attempts_by, searched, Found}
+use Rattle.drawing_search.specs.declared.searching.Searched.{Searched}
+use Rattle.kept_walks.specs.Lighter.{IsMadeLighter}
 
 -- a drawing is weighed by what its walks cost and twelve times their turns, twelve times the turns that lines make over
 -- nodes, and the squares of the distances of corners from where they first stood
@@ -28,13 +30,13 @@ ends_at nodes c = has_node nodes c.from.0 || has_node nodes (end_of c).0
 abbrev pub runs_at : List NodeId → List Chain → List Chain
 runs_at nodes runs = filter (ends_at nodes) runs
 
--- nodes move together by 2, 4, 6 or 8 steps, and all runs that end at one of them are laid anew
-abbrev pub moves_of : List Chain → List NodeId → List Attempt
-moves_of runs nodes = attempts_by 4 nodes (runs_at nodes runs)
+-- nodes move together by vectors of so many lengths, 2, 4 and so on, and all runs that end at one of them are laid anew
+abbrev pub moves_of : ℕ → List Chain → List NodeId → List Attempt
+moves_of lengths runs nodes = attempts_by lengths nodes (runs_at nodes runs)
 
--- each of these nodes moves, and then the two ends of each run
+-- each of these nodes moves by 2, 4, 6 or 8 steps, and then the two ends of each run
 abbrev pub moves_over : List Chain → List NodeId → List Attempt
-moves_over runs nodes = flat_map (λ n. moves_of runs (n ∷ [])) nodes ++ flat_map (λ (c : Chain). moves_of runs (c.from ∷ end_of c ∷ [])) runs
+moves_over runs nodes = flat_map (λ n. moves_of 4 runs (n ∷ [])) nodes ++ flat_map (λ (c : Chain). moves_of 4 runs (c.from ∷ end_of c ∷ [])) runs
 
 -- all attempts of a pass: each chain is laid anew; corners move, and the ends of chains; nodes move, and the ends of
 -- segments
@@ -46,3 +48,8 @@ straight_attempts graph corners =
 -- the drawing after at most so many improving attempts, on cells of a side
 abbrev pub straightened : GraphParts → ℕ → ℕ → List PlainWalk → Found
 straightened graph cell most walks = searched graph (straight_scale (corners_of graph cell)) 20 (straight_attempts graph (corners_of graph cell)) most most walks
+
+-- what straightening on cells of a side promises of the drawing that it makes
+abbrev pub IsStraightened : GraphParts → ℕ → ℕ → List PlainWalk → Searched → Type 0
+IsStraightened graph cell most first s =
+    IsMadeLighter graph (straight_scale (corners_of graph cell)) 20 (straight_attempts graph (corners_of graph cell)) most most first s

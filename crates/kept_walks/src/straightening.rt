@@ -3,7 +3,7 @@
 ghost use Rattle.std.specs.Prelude.{◌≡◌, ◌<◌, IfOk, true};
 ghost use Rattle.drawing_weights.specs.Drawn.{IsDrawn};
 ghost use Rattle.grid_board.specs.Points.{are_near};
-ghost use Rattle.kept_walks.specs.Straightened.{IsStraightened};
+ghost use Rattle.kept_walks.specs.Straightening.{IsStraightened};
 
 use crate::groups::groups_of;
 use drawing_search::{Searched, search};

@@ -3,8 +3,8 @@
 use crate::boards::{at, run};
 use crate::drawings::{bent_line, expect_walk};
 use crate::graphs::three_in_a_row;
+use kept_walks::improve;
 use octi_grid::{Dir, check_drawing};
-use octi_moves::improve;
 use std::test::Fail;
 
 /// The middle one of three stations moves down by two steps, and the line over them becomes straight. The walks weighed

@@ -1,15 +1,15 @@
 use Rattle.std.proofs.Common.{arith}
 use Rattle.graph_maps.specs.Subjects.{told_by}
-use Rattle.octi_moves.proofs.Nearer.{near_more}
+use Rattle.kept_walks.proofs.Promised.{farther}
 use Rattle.graph_maps.proofs.MovedDrawings.{written_by}
 use Rattle.graph_maps.proofs.making.moved_map.Goals as goal
 
 pub moved-requires-clause-near : goal.moved-requires-clause-near
-moved-requires-clause-near c = near_more 1820 1900 c.args.drawing.walks (omega arith) c.requires.near
+moved-requires-clause-near c = farther 1820 1900 (omega arith) c.args.drawing.walks c.requires.near
 
 pub moved-requires-2-clause-near : goal.moved-requires-2-clause-near
 moved-requires-2-clause-near c =
-    near_more 1824 1900 c.in_ok-once.once.walks (omega arith) (c.in_ok-once.ensures.near 1820 c.requires.near)
+    farther 1824 1900 (omega arith) c.in_ok-once.once.walks (c.in_ok-once.ensures.near 1820 c.requires.near)
 
 pub returns : goal.returns
 returns c =

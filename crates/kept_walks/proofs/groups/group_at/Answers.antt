@@ -8,11 +8,11 @@ use Rattle.kept_walks.specs.Straightening.{moves_of}
 use Rattle.kept_walks.proofs.Pushed.{one_apart}
 use Rattle.kept_walks.proofs.groups.group_at.Goals as goal
 
-pub group_of-requires : goal.group_of-requires
-group_of-requires c = subst AreApart (sym (c.in_ok-push.ensures.items ∙ ap (λ (v : List NodeId). v ++ c.args.n ∷ []) c.new-nodes.ensures.items)) (one_apart c.args.n)
+pub group_of-requires-clause-apart : goal.group_of-requires-clause-apart
+group_of-requires-clause-apart c = subst AreApart (sym (c.in_ok-push.ensures.items ∙ ap (λ (v : List NodeId). v ++ c.args.n ∷ []) c.new-nodes.ensures.items)) (one_apart c.args.n)
 
 pub returns-clause-attempts : goal.returns-clause-attempts
 returns-clause-attempts c =
     let rs = c.args.runs.now in
     let nodes = c.in_ok-push.ensures.items ∙ ap (λ (v : List NodeId). v ++ c.args.n ∷ []) c.new-nodes.ensures.items in
-    IfOk-weaker c.group_of.result (λ (g : Group). attempts_in g ≡ moves_of rs c.push.new.self.items) (λ (g : Group). attempts_in g ≡ moves_of rs (c.args.n ∷ [])) (λ g e. e ∙ ap (moves_of rs) nodes) c.group_of.ensures.attempts
+    IfOk-weaker c.group_of.result (λ (g : Group). attempts_in g ≡ moves_of c.args.lengths rs c.push.new.self.items) (λ (g : Group). attempts_in g ≡ moves_of c.args.lengths rs (c.args.n ∷ [])) (λ g e. e ∙ ap (moves_of c.args.lengths rs) nodes) c.group_of.ensures.attempts

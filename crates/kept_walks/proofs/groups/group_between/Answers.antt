@@ -8,8 +8,8 @@ use Rattle.kept_walks.specs.Straightening.{moves_of}
 use Rattle.kept_walks.proofs.Pushed.{two_apart}
 use Rattle.kept_walks.proofs.groups.group_between.Goals as goal
 
-pub group_of-requires : goal.group_of-requires
-group_of-requires c =
+pub group_of-requires-clause-apart : goal.group_of-requires-clause-apart
+group_of-requires-clause-apart c =
     subst AreApart
     (sym (c.in_ok-push-2.ensures.items ∙ ap (λ (v : List NodeId). v ++ c.args.end ∷ []) (c.in_ok-push.ensures.items ∙ ap (λ (v : List NodeId). v ++ c.args.from ∷ []) c.new-nodes.ensures.items)))
     (two_apart c.args.from c.args.end c.requires)
@@ -18,4 +18,4 @@ pub returns-clause-attempts : goal.returns-clause-attempts
 returns-clause-attempts c =
     let rs = c.args.runs.now in
     let nodes = c.in_ok-push-2.ensures.items ∙ ap (λ (v : List NodeId). v ++ c.args.end ∷ []) (c.in_ok-push.ensures.items ∙ ap (λ (v : List NodeId). v ++ c.args.from ∷ []) c.new-nodes.ensures.items) in
-    IfOk-weaker c.group_of.result (λ (g : Group). attempts_in g ≡ moves_of rs c.push-2.new.self.items) (λ (g : Group). attempts_in g ≡ moves_of rs (c.args.from ∷ c.args.end ∷ [])) (λ g e. e ∙ ap (moves_of rs) nodes) c.group_of.ensures.attempts
+    IfOk-weaker c.group_of.result (λ (g : Group). attempts_in g ≡ moves_of 4 rs c.push-2.new.self.items) (λ (g : Group). attempts_in g ≡ moves_of 4 rs (c.args.from ∷ c.args.end ∷ [])) (λ g e. e ∙ ap (moves_of 4 rs) nodes) c.group_of.ensures.attempts

@@ -33,16 +33,16 @@ returns c =
     let ends = attempts_of c.push_ends.new.groups.items in
     let moved = attempts_of c.push_nodes.new.groups.items in
     let by_corners =
-    c.in_ok-push_corners.ensures.attempts ∙ ap (λ k. alone ++ flat_map (λ (n : NodeId). moves_of chains (n ∷ [])) (filter (is_corner corners) (all_nodes k))) c.requires.flags in
+    c.in_ok-push_corners.ensures.attempts ∙ ap (λ k. alone ++ flat_map (λ (n : NodeId). moves_of 4 chains (n ∷ [])) (filter (is_corner corners) (all_nodes k))) c.requires.flags in
     let by_nodes =
     c.in_ok-push_nodes.ensures.attempts
-    ∙ ap₂ (λ (cs : List Chain) k. ends ++ flat_map (λ (n : NodeId). moves_of cs (n ∷ [])) (all_nodes k)) (c.deref.ensures.value ∙ singles) c.nodes-nodes.ensures.count in
+    ∙ ap₂ (λ (cs : List Chain) k. ends ++ flat_map (λ (n : NodeId). moves_of 4 cs (n ∷ [])) (all_nodes k)) (c.deref.ensures.value ∙ singles) c.nodes-nodes.ensures.count in
     let by_ends =
-    c.in_ok-push_ends-2.ensures.attempts ∙ ap (λ (cs : List Chain). moved ++ flat_map (λ (x : Chain). moves_of cs (x.from ∷ end_of x ∷ [])) cs) (c.deref-2.ensures.value ∙ singles) in
+    c.in_ok-push_ends-2.ensures.attempts ∙ ap (λ (cs : List Chain). moved ++ flat_map (λ (x : Chain). moves_of 4 cs (x.from ∷ end_of x ∷ [])) cs) (c.deref-2.ensures.value ∙ singles) in
     record {
       attempts_are = all_pushed (attempts_of c.new-groups.result.items) (attempts_of c.push_alone.new.groups.items) (attempts_of c.push_corners.new.groups.items) (attempts_of c.push_ends.new.groups.items) (attempts_of c.push_nodes.new.groups.items)
-          (attempts_of c.push_ends-2.new.groups.items) (map attempts_alone chains) (flat_map (λ (n : NodeId). moves_of chains (n ∷ [])) (filter (is_corner corners) (nodes_of graph))) (flat_map (λ (x : Chain). moves_of chains (x.from ∷ end_of x ∷ [])) chains)
-          (flat_map (λ (n : NodeId). moves_of (single_runs graph) (n ∷ [])) (nodes_of graph)) (flat_map (λ (x : Chain). moves_of (single_runs graph) (x.from ∷ end_of x ∷ [])) (single_runs graph)) (ap attempts_of c.new-groups.ensures.items)
+          (attempts_of c.push_ends-2.new.groups.items) (map attempts_alone chains) (flat_map (λ (n : NodeId). moves_of 4 chains (n ∷ [])) (filter (is_corner corners) (nodes_of graph))) (flat_map (λ (x : Chain). moves_of 4 chains (x.from ∷ end_of x ∷ [])) chains)
+          (flat_map (λ (n : NodeId). moves_of 4 (single_runs graph) (n ∷ [])) (nodes_of graph)) (flat_map (λ (x : Chain). moves_of 4 (single_runs graph) (x.from ∷ end_of x ∷ [])) (single_runs graph)) (ap attempts_of c.new-groups.ensures.items)
           c.in_ok-push_alone.ensures.attempts by_corners c.in_ok-push_ends.ensures.attempts by_nodes by_ends
           ∙ ap (λ (cs : List Chain). map attempts_alone cs ++ (moves_over cs (filter (is_corner corners) (nodes_of graph)) ++ moves_over (single_runs graph) (nodes_of graph))) c.requires.are;
       fitting = c.requires.fitting;

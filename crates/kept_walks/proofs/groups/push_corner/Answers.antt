@@ -11,7 +11,7 @@ use Rattle.kept_walks.proofs.groups.push_corner.Goals as goal
 pub returns-then-not-is_raised-clause-attempts : goal.returns-then-not-is_raised-clause-attempts
 returns-then-not-is_raised-clause-attempts c =
     let old = attempts_of c.args.groups.now.items in
-    sym (append-nil old) ∙ sym (ap (λ b. old ++ cond b (moves_of c.args.runs.now (c.args.n ∷ [])) []) (sym c.is_raised.ensures ∙ c.if-not-is_raised.true))
+    sym (append-nil old) ∙ sym (ap (λ b. old ++ cond b (moves_of 4 c.args.runs.now (c.args.n ∷ [])) []) (sym c.is_raised.ensures ∙ c.if-not-is_raised.true))
 
 pub returns-clause-sound : goal.returns-clause-sound
 returns-clause-sound c = subst (All IsSound) (sym c.in_ok-push.ensures.items) (All-push IsSound c.args.groups.now.items c.in_ok-group.group c.requires.sound c.in_ok-group.ensures.sound)
@@ -23,4 +23,4 @@ returns-clause-attempts c =
     ap attempts_of c.in_ok-push.ensures.items
     ∙ one_group_more gs c.in_ok-group.group
     ∙ ap (λ (v : List Attempt). old ++ v) c.in_ok-group.ensures.attempts
-    ∙ sym (ap (λ b. old ++ cond b (moves_of c.args.runs.now (c.args.n ∷ [])) []) (sym c.is_raised.ensures ∙ c.if-not-is_raised.false))
+    ∙ sym (ap (λ b. old ++ cond b (moves_of 4 c.args.runs.now (c.args.n ∷ [])) []) (sym c.is_raised.ensures ∙ c.if-not-is_raised.false))

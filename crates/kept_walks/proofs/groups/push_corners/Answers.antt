@@ -14,7 +14,7 @@ loop-n-init c = record { sound = c.requires.sound; attempts = sym (append-nil (a
 pub loop-n-preserved : goal.loop-n-preserved
 loop-n-preserved c = record {
   sound = c.in_ok-push_corner.ensures.sound;
-  attempts = corner_more c.args.corners.now (λ (m : NodeId). moves_of c.args.runs.now (m ∷ [])) (attempts_of c.args.groups.now.items) (attempts_of c.loop-n.groups.items) (attempts_of c.push_corner.new.groups.items) c.loop-n.n c.loop-n.invariant.attempts
+  attempts = corner_more c.args.corners.now (λ (m : NodeId). moves_of 4 c.args.runs.now (m ∷ [])) (attempts_of c.args.groups.now.items) (attempts_of c.loop-n.groups.items) (attempts_of c.push_corner.new.groups.items) c.loop-n.n c.loop-n.invariant.attempts
       c.in_ok-push_corner.ensures.attempts;
 }
 
@@ -22,4 +22,4 @@ pub returns-clause-attempts : goal.returns-clause-attempts
 returns-clause-attempts c =
     let corners = c.args.corners.now in
     let at_end : c.loop-n.n ≡ length corners = omega (arith, c.loop-n-test.false, c.loop-n.auto.n-end, c.len-n-end.ensures) in
-    c.loop-n.invariant.attempts ∙ ap (λ k. attempts_of c.args.groups.now.items ++ flat_map (λ (m : NodeId). moves_of c.args.runs.now (m ∷ [])) (filter (is_corner corners) (all_nodes k))) at_end
+    c.loop-n.invariant.attempts ∙ ap (λ k. attempts_of c.args.groups.now.items ++ flat_map (λ (m : NodeId). moves_of 4 c.args.runs.now (m ∷ [])) (filter (is_corner corners) (all_nodes k))) at_end

@@ -12,5 +12,5 @@ use Rattle.kept_walks.proofs.groups.push_corners.Given as goal
 abbrev pub invariant-loop-n : goal.invariant-loop-n
 invariant-loop-n l = record {
   sound : All IsSound l.groups.items;
-  attempts : attempts_of l.groups.items ≡ attempts_of l.initial.groups.items ++ flat_map (λ (m : NodeId). moves_of l.runs (m ∷ [])) (filter (is_corner l.corners) (all_nodes l.n));
+  attempts : attempts_of l.groups.items ≡ attempts_of l.initial.groups.items ++ flat_map (λ (m : NodeId). moves_of 4 l.runs (m ∷ [])) (filter (is_corner l.corners) (all_nodes l.n));
 }

@@ -27,11 +27,11 @@ loop-run-preserved c =
     let g = c.in_ok-group.group in
     let r = c.run-item.result in
     let pushed = c.in_ok-push.ensures.items in
-    let moves = λ (x : Chain). moves_of rs (x.from ∷ end_of x ∷ []) in
+    let moves = λ (x : Chain). moves_of 4 rs (x.from ∷ end_of x ∷ []) in
     record {
       sound = subst (All IsSound) (sym pushed) (All-push IsSound gs g c.loop-run.invariant.sound c.in_ok-group.ensures.sound);
       attempts = push_more moves rs c.loop-run.run-index r gs c.push.new.self.items g c.loop-run-test.true
-          (c.in_ok-group.ensures.attempts ∙ ap (λ (n : NodeId). moves_of rs (r.from ∷ n ∷ [])) c.end-end.ensures ∙ ap moves c.run-item.is) pushed
+          (c.in_ok-group.ensures.attempts ∙ ap (λ (n : NodeId). moves_of 4 rs (r.from ∷ n ∷ [])) c.end-end.ensures ∙ ap moves c.run-item.is) pushed
           ∙ c.loop-run.invariant.attempts;
     }
 
@@ -40,5 +40,5 @@ returns-clause-attempts c =
     let gs = c.loop-run.groups.items in
     let rs = c.args.runs.now in
     sym (append-nil (attempts_of gs))
-    ∙ sym (at_drop_all (λ (cs : List Chain). attempts_of gs ++ flat_map (λ (x : Chain). moves_of rs (x.from ∷ end_of x ∷ [])) cs) rs c.loop-run.run-index c.loop-run-test.false)
+    ∙ sym (at_drop_all (λ (cs : List Chain). attempts_of gs ++ flat_map (λ (x : Chain). moves_of 4 rs (x.from ∷ end_of x ∷ [])) cs) rs c.loop-run.run-index c.loop-run-test.false)
     ∙ c.loop-run.invariant.attempts

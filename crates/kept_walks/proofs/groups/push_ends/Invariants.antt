@@ -13,6 +13,6 @@ abbrev pub invariant-loop-run : goal.invariant-loop-run
 invariant-loop-run l = record {
   sound : All IsSound l.groups.items;
   attempts :
-      attempts_of l.groups.items ++ flat_map (λ (c : Chain). moves_of l.runs (c.from ∷ end_of c ∷ [])) (drop l.run-index l.runs)
-      ≡ attempts_of l.initial.groups.items ++ flat_map (λ (c : Chain). moves_of l.runs (c.from ∷ end_of c ∷ [])) l.runs;
+      attempts_of l.groups.items ++ flat_map (λ (c : Chain). moves_of 4 l.runs (c.from ∷ end_of c ∷ [])) (drop l.run-index l.runs)
+      ≡ attempts_of l.initial.groups.items ++ flat_map (λ (c : Chain). moves_of 4 l.runs (c.from ∷ end_of c ∷ [])) l.runs;
 }

@@ -10,7 +10,7 @@ use Rattle.kept_walks.proofs.Pushed.{push_node_more}
 use Rattle.kept_walks.proofs.groups.push_nodes.Goals as goal
 
 pub loop-n-init : goal.loop-n-init
-loop-n-init c = record { sound = c.requires; attempts = sym (append-nil (attempts_of c.args.groups.now.items)) }
+loop-n-init c = record { sound = c.requires.sound; attempts = sym (append-nil (attempts_of c.args.groups.now.items)) }
 
 pub loop-n-preserved : goal.loop-n-preserved
 loop-n-preserved c =
@@ -20,10 +20,10 @@ loop-n-preserved c =
     let pushed = c.in_ok-push.ensures.items in
     record {
       sound = subst (All IsSound) (sym pushed) (All-push IsSound gs g c.loop-n.invariant.sound c.in_ok-group.ensures.sound);
-      attempts = push_node_more (λ (m : NodeId). moves_of rs (m ∷ [])) (attempts_of c.args.groups.now.items) gs c.push.new.self.items g c.loop-n.n c.loop-n.invariant.attempts c.in_ok-group.ensures.attempts pushed;
+      attempts = push_node_more (λ (m : NodeId). moves_of c.args.lengths rs (m ∷ [])) (attempts_of c.args.groups.now.items) gs c.push.new.self.items g c.loop-n.n c.loop-n.invariant.attempts c.in_ok-group.ensures.attempts pushed;
     }
 
 pub returns-clause-attempts : goal.returns-clause-attempts
 returns-clause-attempts c =
     let at_end : c.loop-n.n ≡ c.args.nodes = omega (arith, c.loop-n-test.false, c.loop-n.auto.n-end) in
-    c.loop-n.invariant.attempts ∙ ap (λ k. attempts_of c.args.groups.now.items ++ flat_map (λ (m : NodeId). moves_of c.args.runs.now (m ∷ [])) (all_nodes k)) at_end
+    c.loop-n.invariant.attempts ∙ ap (λ k. attempts_of c.args.groups.now.items ++ flat_map (λ (m : NodeId). moves_of c.args.lengths c.args.runs.now (m ∷ [])) (all_nodes k)) at_end

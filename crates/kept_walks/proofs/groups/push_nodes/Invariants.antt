@@ -11,5 +11,5 @@ use Rattle.kept_walks.proofs.groups.push_nodes.Given as goal
 abbrev pub invariant-loop-n : goal.invariant-loop-n
 invariant-loop-n l = record {
   sound : All IsSound l.groups.items;
-  attempts : attempts_of l.groups.items ≡ attempts_of l.initial.groups.items ++ flat_map (λ (m : NodeId). moves_of l.runs (m ∷ [])) (all_nodes l.n);
+  attempts : attempts_of l.groups.items ≡ attempts_of l.initial.groups.items ++ flat_map (λ (m : NodeId). moves_of l.lengths l.runs (m ∷ [])) (all_nodes l.n);
 }

@@ -8,8 +8,7 @@ use Rattle.drawing_search.specs.declared.searching.Searched.{Searched}
 use Rattle.drawing_search.specs.Changes.{AreApart}
 use Rattle.drawing_search.specs.Searched.{attempts_of, IsSearched}
 use Rattle.kept_walks.specs.Groups.{AreRunsOf}
-use Rattle.kept_walks.specs.Straightened.{IsStraightened}
-use Rattle.kept_walks.specs.Straightening.{straight_attempts, straight_scale}
+use Rattle.kept_walks.specs.Straightening.{straight_attempts, straight_scale, IsStraightened}
 use Rattle.kept_walks.proofs.Corners.{corners_many}
 use Rattle.kept_walks.proofs.Fitting.{all_fitting}
 use Rattle.kept_walks.proofs.Promised.{chains_are_runs, farther, straightened_of}

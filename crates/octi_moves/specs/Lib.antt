@@ -1,4 +1,0 @@
-pub mod Moves
-pub mod Lightest
-pub mod Standing
-pub mod Improving
