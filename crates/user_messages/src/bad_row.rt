@@ -317,11 +317,11 @@ fn around<R: Files + AllocGlobal>(
         return Ok(String::new(alloc));
     };
     let value = quoted(alloc, value)?;
-    let lines = count_of(field.as_slice(), b'\n');
+    let lines = count_of(field.as_slice(), b'\n').saturating_add(1);
     let field = quoted(alloc, field.as_slice())?;
     Ok(format!(in alloc;
-        "octimap: {table}, row {row}: a field goes on for {lines} more lines, and {column} {value} stands in it: {field}; \
-        is a quote not closed there?\n"
+        "octimap: {table}, row {row}: a field has {lines} lines, and {column} {value} stands in it: {field}; is a quote \
+        not closed there?\n"
     )?)
 }
 
