@@ -3,6 +3,25 @@ const feetOf = ({ x, y, feet }, spread) => feet.map(([right, down]) => [x + righ
 const circleAt = ([x, y], r) => `M${x - r} ${y}a${r} ${r} 0 1 0 ${2 * r} 0a${r} ${r} 0 1 0 ${-2 * r} 0z`;
 const rounded = places => 'M' + places.map(place => place.map(Math.round).join(' ')).join('L');
 
+/* A way as it is drawn, its places to a part of a unit. A bend begins at most half way to the corner before it, and ends
+   at most half way to that behind it. */
+function textOf({ centre, shift, bends }, spread, parts) {
+  const to = value => Math.round(value * parts) / parts;
+  const at = centre.map((value, i) => to(value + shift[i] * spread));
+  if (!bends) return `M${at}`;
+  const corner = i => at.slice(2 * i, 2 * i + 2), last = at.length / 2 - 1;
+  const towards = ([x, y], [right, down], away) => {
+    const part = Math.min(.5, away / (Math.hypot(right - x, down - y) || 1));
+    return [to(x + (right - x) * part), to(y + (down - y) * part)];
+  };
+  let text = `M${corner(0)}`;
+  for (let i = 1; i < last; i++) {
+    const [before, here, behind] = [i - 1, i, i + 1].map(corner), away = (bends[i] || 0) * spread;
+    text += away > 0 ? `L${towards(here, before, away)}Q${here},${towards(here, behind, away)}` : `L${here}`;
+  }
+  return `${text}L${corner(last)}`;
+}
+
 /* Lines and stations as shapes, with names where there is room. */
 class Layer {
   constructor(root, { left, top, width, height, parts }) {
@@ -17,8 +36,9 @@ class Layer {
   draw(look, part) {
     const { edges, routes, markers, names, radii } = this;
     if (this.spread !== look.spread) { this.spreadOut(look.spread); this.draw(look, part); return; }
-    edges.setAttribute('stroke-width', look.edge);
+    edges.setAttribute('stroke-width', look.stroke);
     routes.setAttribute('stroke-width', look.stroke);
+    routes.style.setProperty('--thin', look.thin);
     markers.lastElementChild.setAttribute('stroke-width', look.rim);
     radii.forEach((radius, i) => {
       markers.children[i].setAttribute('stroke-width', look.rimOf(radius));
@@ -32,15 +52,16 @@ class Layer {
     this.placed.forEach(({ station }, i) => { names.children[i].textContent = station.name; });
   }
 
-  /* The ways of lines, the edges below all of them, and the markers: those over several feet by size, all rims below
+  /* The ways of lines, which are thinner over an edge that is seen, the edges below all of them, and the markers: those over several feet by size, all rims below
      all that fills them, then the circles as one. */
   spreadOut(spread) {
     this.spread = spread;
-    this.texts = this.lines.map(({ ways }) => ways.map(({ centre, shift }) => (
-      'M' + centre.map((value, i) => Math.round((value + shift[i] * spread) * this.parts) / this.parts)
-    )).join(''));
+    this.texts = this.lines.map(({ ways }) => ways.map(way => textOf(way, spread, this.parts)).join(''));
     this.courses = this.texts.map(text => new Path2D(text));
-    this.routes.innerHTML = this.texts.map((text, i) => `<path color="${this.lines[i].colour}" d="${text}"/>`).join('');
+    this.routes.innerHTML = this.texts.map((text, i) => {
+      const { colour, edge } = this.lines[i];
+      return `<path class="${edge ? `thin-${edge.paper}` : ''}" color="${colour}" d="${text}"/>`;
+    }).join('');
     this.edges.innerHTML = this.texts.map((text, i) => {
       const { edge } = this.lines[i];
       return edge ? `<path class="${edge.paper}" color="${edge.colour}" d="${text}"/>` : '';

@@ -40,7 +40,9 @@ function takeOver(lines, stations, { widths, distances, left, top }) {
   const placed = places => places.map((value, i) => (value - [left, top][i % 2]) * distances);
   const widened = shift => shift.map(value => value * widths);
   for (const line of lines) {
-    line.ways = line.ways.map(({ centre, shift }) => ({ centre: placed(centre), shift: widened(shift) }));
+    line.ways = line.ways.map(({ centre, shift, bends }) => (
+      { centre: placed(centre), shift: widened(shift), bends: bends.some(bend => bend > 0) ? widened(bends) : null }
+    ));
   }
   for (const station of stations) {
     const [x, y] = placed([station.x, station.y]), feet = station.feet.map(widened), radius = station.radius * widths;

@@ -31,17 +31,19 @@ const SIDES = [
 ];
 const pen = Object.assign(new OffscreenCanvas(1, 1).getContext('2d'), { lineCap: 'round', lineJoin: 'round' });
 
-/* Names, those of more lines first, where least is crossed and nothing taken. Some find none. */
+/* Names, those of interchanges first and then those of more lines, where least is crossed and nothing taken; an
+   interchange is named over its lines too. Some find none. */
 function placeNames(stations, squares, { letters, reachOf, most }) {
   for (const station of stations) {
     const reach = reachOf(station);
     squares.crossed(station.x - reach, station.y - reach, 2 * reach, 2 * reach, true);
   }
   pen.font = '100px system-ui, sans-serif';
-  return stations.filter(({ name }) => name).sort((a, b) => b.lines.size - a.lines.size).flatMap(station => {
+  const weightOf = ({ isInterchange, lines }) => (isInterchange ? 1000 : 0) + lines.size;
+  return stations.filter(({ name }) => name).sort((a, b) => weightOf(b) - weightOf(a)).flatMap(station => {
     station.ems ??= pen.measureText(station.name).width / 100;
     const away = reachOf(station) + letters / 3, width = station.ems * letters, height = letters * 1.1;
-    let best, least = most * station.lines.size;
+    let best, least = most * weightOf(station);
     SIDES.forEach(([right, down, before, above], side) => {
       const [x, y] = [station.x + right * away - before * width, station.y + down * away - above * height];
       const place = [x, y, width, height];

@@ -1,18 +1,23 @@
 'use strict';
 
-const numbersOf = (element, name) => (element?.getAttribute(name) || '').match(/-?\d+(\.\d+)?/g)?.map(Number) || [];
+const NUMBERS = /-?\d+(\.\d+)?/g;
+const numbersOf = (element, name) => (element?.getAttribute(name) || '').match(NUMBERS)?.map(Number) || [];
 const wordsOf = element => (element?.textContent || '').replace(/\s+/g, ' ').trim();
 
 /* What a map or a poster shows, in the page's measures: lines with their ways over segments, and stations; null where
    it is neither. Only numbers, colours and names are taken from it. */
 function readPicture(text) {
   const root = new DOMParser().parseFromString(text, 'text/html');
-  const { lines: byNumber, segments } = readLines(root), lines = [...byNumber.values()];
+  const { lines: byNumber, segments, ends } = readLines(root), lines = [...byNumber.values()];
   const groups = [...root.querySelectorAll('g')].filter(({ className }) => /^n\d+( l\d+)*$/.test(className.baseVal));
   const stations = groups.length > 0 ? groups.flatMap(group => posterStation(group, byNumber)) : mapStations(root);
   if (lines.length + stations.length === 0) return null;
   const stationAt = new Map(stations.map(station => [`${station.x},${station.y}`, station]));
   lines.forEach(line => listStations(line, stationAt));
+  for (const [place, { length }] of groupsOf(ends, end => end).map(group => [group[0], group])) {
+    const station = stationAt.get(place);
+    if (station) station.isInterchange = length > 2 && station.lines.size > 1;
+  }
   const measures = measuresOf(lines, stations);
   takeOver(lines, stations, measures);
   return {
@@ -23,21 +28,41 @@ function readPicture(text) {
   };
 }
 
-/* Lines by number. The wider copy below a pale line of a poster is none. */
+/* Lines by number, segments, and where segments end. The wider copy below a pale line of a poster is no line: it has a
+   width of its own in a group that has one. */
 function readLines(root) {
   const lines = new Map(), segments = new Map(), joins = [];
   for (const element of root.querySelectorAll('path')) {
     const [, kind, place, number] = /^([sn])(\d+) l(\d+)$/.exec(element.getAttribute('class')) || [];
-    const points = numbersOf(element, 'd');
-    if (!kind || points.length < 4 || points.length % 2 > 0 || element.getAttribute('stroke-width') === '14') continue;
+    const { points, bends } = cornersOf(element.getAttribute('d') || '');
+    const isCopy = element.hasAttribute('stroke-width') && element.parentElement.closest('[stroke-width]');
+    if (!kind || points.length < 4 || points.length % 2 > 0 || isCopy) continue;
     if (!lines.has(number)) lines.set(number, newLine(number, element));
-    const way = { line: lines.get(number), points };
+    const way = { line: lines.get(number), points, bends };
     if (kind === 's') segments.set(place, [...segments.get(place) || [], way]);
     else joins.push(way);
   }
-  segments.forEach(centreWays);
+  const ends = [...segments.values()].flatMap(centreWays);
   joins.forEach(linkJoin);
-  return { lines, segments };
+  return { lines, segments, ends };
+}
+
+/* The corners of a path, and how far from each of them its bend begins, 0 where it is sharp. A bend is a straight piece
+   to where it begins, and a curve by its corner to where it ends. */
+function cornersOf(way) {
+  const points = [], bends = [];
+  for (const [, kind, told] of way.matchAll(/([A-Za-z])([^A-Za-z]*)/g)) {
+    const numbers = told.match(NUMBERS)?.map(Number) || [];
+    if (kind === 'Q' && points.length > 0) {
+      const [right, down] = points.splice(-2);
+      bends.splice(-1, 1, Math.hypot(numbers[0] - right, numbers[1] - down));
+      points.push(...numbers.slice(0, 2));
+    } else {
+      points.push(...numbers);
+      bends.push(...numbers.slice(0, numbers.length / 2).fill(0));
+    }
+  }
+  return { points, bends };
 }
 
 function newLine(number, element) {

@@ -18,9 +18,11 @@ function* shapesOf({ layers, look, lifted }) {
   for (const layer of lifted ? layers : [layers[0]]) {
     if (layer !== layers[0]) yield { veil: .8 };
     for (const [i, { edge }] of layer.lines.entries()) {
-      if (edge?.paper === 'on-white') yield { d: layer.texts[i], colour: edge.colour, width: look.edge };
+      if (edge?.paper === 'on-white') yield { d: layer.texts[i], colour: edge.colour, width: look.stroke };
     }
-    for (const [i, { colour }] of layer.lines.entries()) yield { d: layer.texts[i], colour, width: look.stroke };
+    for (const [i, { colour, edge }] of layer.lines.entries()) {
+      yield { d: layer.texts[i], colour, width: edge?.paper === 'on-white' ? look.thin : look.stroke };
+    }
     for (const [colour, widthOf] of [[INK, look.rimOf], [PAPER, look.fillOf]]) {
       for (const [i, radius] of layer.radii.entries()) yield { d: layer.marks[i], colour, width: widthOf(radius) };
     }

@@ -31,7 +31,8 @@ class View {
     this.go(this.aim?.() || { scale: this.rest.scale, x: this.rest.x + right, y: this.rest.y + down }, true);
   }
 
-  /* Lines are neither too thin nor too fat, and bundles cover nothing beside them. */
+  /* Lines are neither too thin nor too fat, and bundles cover nothing beside them. A line with an edge is as wide with it
+     as others are without. */
   lookAt(scale) {
     const { step, widest } = this.map, room = Math.max(1, Math.min(5, 11 / widest * (step / APART)));
     const wanted = Math.max(3.6, Math.min(STROKE * scale, 10)) / (STROKE * scale);
@@ -39,7 +40,7 @@ class View {
     const stroke = Math.max(STROKE * spread, 2.2 / scale), rim = Math.max(4 * spread, 1 / scale);
     const rimOf = radius => 2 * spread * radius + rim;
     return {
-      spread, stroke, rim, edge: stroke + Math.max(2 * spread, 2 / scale),
+      spread, stroke, rim, thin: stroke - Math.min(stroke * .45, Math.max(3 * spread, 1.4 / scale)),
       rimOf, fillOf: radius => Math.max(0, rimOf(radius) - 2 * rim), reachOf: ({ reach }) => rimOf(reach) / 2,
       letters: Math.max(12 / scale, Math.min(20, 16 / scale)), most: scale < 2 * this.whole().scale ? .7 : 9,
     };

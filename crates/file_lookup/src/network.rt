@@ -1,18 +1,17 @@
 //! The network of a feed, looked at again.
 
-use crate::paths::{bytes_at, is_plain};
-use command_inputs::{Inputs, load, path_of};
+use crate::feed_stations::FeedStations;
+use crate::feed_tables::tables_of;
+use crate::paths::bytes_at;
+use command_inputs::Inputs;
 use command_words::Command;
-use disk_files::DiskFiles;
 use graph_core::{LineGraph, NodeKind};
 use graph_json::{Imported, JsonFault, read_graph};
 use line_graph::build;
-use map_base::{NoMemory, NodeId, Point, Sequence, Text};
+use map_base::{NoMemory, NodeId, Point, SegId, Sequence, Text};
 use message_texts::far_stations;
-use run_status::{Input, Refusal};
 use std::alloc::Global;
 use std::rt::Files;
-use table_rows::Table;
 use transit_feed::Tables;
 
 /// The line graph that a command works on.
@@ -22,8 +21,8 @@ pub struct Network {
     pub graph: LineGraph,
     /// What its stations are called.
     pub names: Sequence<Text>,
-    /// The fields of the files that say where stations lie.
-    pub places: &'static str,
+    /// The stations of its feed; none where it stands in a graph file.
+    pub feed: Option<FeedStations>,
 }
 
 /// The stations of a network that lie far from all others.
@@ -58,7 +57,7 @@ fn of_graph_file<R: Files + AllocGlobal>(rt: &R, path: &str) -> Result<Option<Ne
             Ok(Some(Network {
                 graph,
                 names: names.stations,
-                places: "coordinates",
+                feed: None,
             }))
         }
         Err(JsonFault::NoMemory) => Err(NoMemory),
@@ -72,20 +71,14 @@ fn of_feed<R: Files + AllocGlobal>(
     inputs: &Inputs<'_>,
 ) -> Result<Option<Network>, NoMemory> {
     let alloc = rt.alloc();
-    if !are_plain(rt, inputs)? {
+    let Some(loaded) = tables_of(rt, inputs)? else {
         return Ok(None);
-    }
-    let mut files = DiskFiles::new(rt);
-    let loaded = match load(alloc, inputs, &mut files) {
-        Ok(loaded) => loaded,
-        Err(Refusal::NoMemory) => return Err(NoMemory),
-        Err(_) => return Ok(None),
     };
     match build(alloc, &loaded.tables, &loaded.settings) {
         Ok(graph) => Ok(Some(Network {
             graph,
             names: names_of(alloc, &loaded.tables)?,
-            places: "stop_lat and stop_lon",
+            feed: Some(FeedStations::of(alloc, loaded.tables)?),
         })),
         Err(_) => Ok(None),
     }
@@ -105,40 +98,8 @@ fn names_of(alloc: Global, tables: &Tables) -> Result<Sequence<Text>, NoMemory> 
     Ok(Sequence::of(names))
 }
 
-/// Whether all files that a command loads are plain ones, the shapes where they are there.
-fn are_plain<R: Files + AllocGlobal>(rt: &R, inputs: &Inputs<'_>) -> Result<bool, NoMemory> {
-    let needed = [
-        Input::Table(Table::Routes),
-        Input::Table(Table::Stops),
-        Input::Table(Table::Trips),
-        Input::Table(Table::StopTimes),
-    ];
-    for input in needed {
-        if !is_plain_at(rt, inputs, input)? {
-            return Ok(false);
-        }
-    }
-    if inputs.options.settings.is_some() && !is_plain_at(rt, inputs, Input::Settings)? {
-        return Ok(false);
-    }
-    if inputs.options.edits.is_some() && !is_plain_at(rt, inputs, Input::Edits)? {
-        return Ok(false);
-    }
-    Ok(true)
-}
-
-/// Whether an input is a plain file.
-fn is_plain_at<R: Files + AllocGlobal>(
-    rt: &R,
-    inputs: &Inputs<'_>,
-    input: Input,
-) -> Result<bool, NoMemory> {
-    let path = path_of(rt.alloc(), inputs, input)?;
-    Ok(is_plain(rt, path.as_str()))
-}
-
 impl Network {
-    /// The stations that lie far from all others, where there are any.
+    /// The nodes of stations that lie far from all others, where there are any.
     pub fn far_off(&self, alloc: Global) -> Result<Option<FarOff>, NoMemory> {
         let (nodes, points) = self.stations(alloc)?;
         let far = far_stations(alloc, points.as_slice())?;
@@ -167,6 +128,21 @@ impl Network {
             }
         }
         Ok((nodes, places))
+    }
+
+    /// The first segment with the most lines, and how many it has; none where there is no segment.
+    pub fn widest(&self) -> Option<(SegId, usize)> {
+        let mut widest = None;
+        let mut most = 0;
+        for number in 0..self.graph.segs() {
+            let seg = SegId(number);
+            let lines = self.graph.lines(seg).len();
+            if lines > most {
+                most = lines;
+                widest = Some((seg, lines));
+            }
+        }
+        widest
     }
 
     /// How many segments meet at a node.

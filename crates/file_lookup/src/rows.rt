@@ -139,3 +139,51 @@ fn field_at<'a>(row: &Row<'a>, column: usize) -> &'a [u8] {
         &[]
     }
 }
+
+/// The number and the field of the first row of a table that has a field of several lines in which a text stands:
+/// the rows behind a quote that was not closed. None where there is no such row.
+#[inline(never)]
+pub fn row_around(
+    alloc: Global,
+    bytes: &[u8],
+    text: &[u8],
+) -> Result<Option<(u64, Vec<u8>)>, NoMemory> {
+    let mut reader = row_reader_of(alloc, bytes)?;
+    for number in 1..u64::MAX {
+        if !reader.next()? {
+            return Ok(None);
+        }
+        let row = reader.row();
+        if let Some(field) = field_around(&row, text) {
+            return Ok(Some((number, field.to_vec(alloc)?)));
+        }
+    }
+    Ok(None)
+}
+
+/// The first field of a row that has several lines, and a text in it.
+fn field_around<'a>(row: &Row<'a>, text: &[u8]) -> Option<&'a [u8]> {
+    for place in 0..row.len() {
+        let field = row.field(place);
+        if field.contains(&b'\n') && holds(field, text) {
+            return Some(field);
+        }
+    }
+    None
+}
+
+/// Whether a text stands in a field of several lines as if it were a field of one of them.
+fn holds(field: &[u8], text: &[u8]) -> bool {
+    let Ok(lines) = str::from_utf8(field) else {
+        return false;
+    };
+    for line in lines.lines() {
+        if line
+            .split(",")
+            .any(|cell| trim_spaces(cell.as_bytes()) == text)
+        {
+            return true;
+        }
+    }
+    false
+}

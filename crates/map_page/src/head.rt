@@ -6,17 +6,20 @@ pub const HEAD: &str = "\
 <html lang=\"en\">\n\
 <head>\n\
 <meta charset=\"utf-8\">\n\
-<meta http-equiv=\"Content-Security-Policy\" content=\"default-src 'none'; script-src 'sha256-T2cRe/SHCEsaF+ANzOqOu3gqhtY6tG2CNe/potYESCc='; style-src 'sha256-12hu7iqhTrlzEwsCmXq8wfwdShje/xRXEbY9hooZnnA='; base-uri 'none'; form-action 'none'\">\n\
+<meta http-equiv=\"Content-Security-Policy\" content=\"default-src 'none'; script-src 'sha256-1nlnLpJ/XMYU/zyadNdXfslWvZgDpVPrw3gDdwm88e0='; style-src 'sha256-NbcQrIM4eVW4QaLXMQY03C8AuYW+6O+cujeuwNumQz4='; base-uri 'none'; form-action 'none'\">\n\
 <meta name=\"viewport\" content=\"width=device-width, initial-scale=1\">\n\
 <title>Transit map</title>\n\
 <style>\n\
 :root { color-scheme: light dark; --paper: #fff; --panel: #f6f7f9; --ink: #16181d; --faint: #5a6270; --hover: #e0e5ee; --focus: #0b57d0; }\n\
 path.on-dark { display: none; }\n\
+path.thin-on-white { stroke-width: var(--thin); }\n\
 i.on-white { border-color: var(--edge) !important; }\n\
 @media screen and (prefers-color-scheme: dark) {\n\
 \x20 :root { --paper: #15181c; --panel: #1d2127; --ink: #eceff4; --faint: #a9b1bd; --hover: #333a45; --focus: #8ab4f8; }\n\
 \x20 path.on-white { display: none; }\n\
 \x20 path.on-dark { display: inline; }\n\
+\x20 path.thin-on-white { stroke-width: inherit; }\n\
+\x20 path.thin-on-dark { stroke-width: var(--thin); }\n\
 \x20 i.on-white { border-color: transparent !important; }\n\
 \x20 i.on-dark { border-color: var(--edge) !important; }\n\
 }\n\
@@ -47,7 +50,7 @@ i { display: inline-block; width: .7rem; height: .7rem; border: 1px solid transp
 #lines i { width: 1.6rem; }\n\
 #save button { margin: .4rem .4rem 0 0; padding: .3rem 1rem; }\n\
 \n\
-#view { position: relative; grid-column: -2 / -1; overflow: hidden; }\n\
+#view { position: relative; grid-area: 1 / 2; overflow: hidden; }\n\
 #view > *, #plane svg { position: absolute; }\n\
 #plane, #plane svg { left: 0; top: 0; transform-origin: 0 0; overflow: visible; stroke-linecap: round; stroke-linejoin: round; }\n\
 .moving { will-change: transform; }\n\
@@ -59,7 +62,7 @@ svg path { fill: none; stroke: currentColor; }\n\
 .names { fill: var(--ink); stroke: var(--paper); paint-order: stroke; }\n\
 #glass { inset: 0; cursor: grab; touch-action: none; }\n\
 #tip { left: 0; top: 0; max-width: 20rem; padding: .25rem .6rem; border-radius: 6px; background: var(--ink); color: var(--paper); pointer-events: none; }\n\
-#zoom { right: .8rem; bottom: .8rem; display: grid; gap: .3rem; }\n\
+#zoom { position: relative; grid-area: 1 / 2; place-self: end; display: grid; gap: .3rem; margin: .8rem; }\n\
 #zoom button { width: 2.6rem; height: 2.6rem; }\n\
 #trouble, noscript { inset: 40% 10% auto; text-align: center; }\n\
 #said { position: absolute; clip-path: inset(50%); }\n\
@@ -72,7 +75,7 @@ svg path { fill: none; stroke: currentColor; }\n\
 \x20 #panel { display: contents; }\n\
 \x20 #top { grid-area: top; padding: .5rem .8rem 0; background: var(--panel); }\n\
 \x20 #more { grid-area: more; display: flex; flex-wrap: wrap; gap: 0 1.5rem; padding: .3rem .8rem; background: var(--panel); }\n\
-\x20 #view { grid-area: view; }\n\
+\x20 #view, #zoom { grid-area: view; }\n\
 \x20 #card { grid-area: card; display: flex; flex-direction: column; max-height: 40vh; border-radius: 0; background: var(--panel); }\n\
 \x20 #name:not(.own), #size { display: none; }\n\
 \x20 #find { font-size: 16px; }\n\
@@ -81,6 +84,14 @@ svg path { fill: none; stroke: currentColor; }\n\
 \x20 #parts { min-height: 3rem; }\n\
 \x20 #lines { max-height: 40vh; overflow: auto; }\n\
 \x20 details[open] { flex-basis: 100%; }\n\
+}\n\
+@media screen and (max-height: 30rem) {\n\
+\x20 body { grid-template-columns: 15rem minmax(0, 1fr) auto; }\n\
+\x20 #zoom { grid-area: 1 / 3; }\n\
+}\n\
+@media screen and (max-width: 44rem) and (max-height: 30rem) {\n\
+\x20 body { grid-template: \"top top\" auto \"more more\" auto \"view zoom\" minmax(0, 1fr) \"card card\" auto / minmax(0, 1fr) auto; }\n\
+\x20 #zoom { grid-area: zoom; }\n\
 }\n\
 @media print {\n\
 \x20 @page { size: landscape; margin: 10mm; }\n\
@@ -131,31 +142,36 @@ svg path { fill: none; stroke: currentColor; }\n\
 </div>\n\
 <div id=\"glass\"></div>\n\
 <p id=\"tip\" dir=\"auto\" hidden></p>\n\
+<p id=\"trouble\" hidden>This picture shows no map.</p>\n\
+<noscript>A script draws the map: scripts are off.</noscript>\n\
+</main>\n\
 <div id=\"zoom\">\n\
 <button id=\"closer\" aria-label=\"Zoom in\">+</button>\n\
 <button id=\"farther\" aria-label=\"Zoom out\">&#8722;</button>\n\
 <button id=\"whole\" aria-label=\"Show the whole map\">All</button>\n\
 </div>\n\
-<p id=\"trouble\" hidden>This picture shows no map.</p>\n\
-<noscript>A script draws the map: scripts are off.</noscript>\n\
-</main>\n\
 <p id=\"said\" role=\"status\"></p>\n\
 <script>\n\
 'use strict';\n\
 \n\
-const numbersOf = (element, name) => (element?.getAttribute(name) || '').match(/-?\\d+(\\.\\d+)?/g)?.map(Number) || [];\n\
+const NUMBERS = /-?\\d+(\\.\\d+)?/g;\n\
+const numbersOf = (element, name) => (element?.getAttribute(name) || '').match(NUMBERS)?.map(Number) || [];\n\
 const wordsOf = element => (element?.textContent || '').replace(/\\s+/g, ' ').trim();\n\
 \n\
 /* What a map or a poster shows, in the page's measures: lines with their ways over segments, and stations; null where\n\
 \x20  it is neither. Only numbers, colours and names are taken from it. */\n\
 function readPicture(text) {\n\
 \x20 const root = new DOMParser().parseFromString(text, 'text/html');\n\
-\x20 const { lines: byNumber, segments } = readLines(root), lines = [...byNumber.values()];\n\
+\x20 const { lines: byNumber, segments, ends } = readLines(root), lines = [...byNumber.values()];\n\
 \x20 const groups = [...root.querySelectorAll('g')].filter(({ className }) => /^n\\d+( l\\d+)*$/.test(className.baseVal));\n\
 \x20 const stations = groups.length > 0 ? groups.flatMap(group => posterStation(group, byNumber)) : mapStations(root);\n\
 \x20 if (lines.length + stations.length === 0) return null;\n\
 \x20 const stationAt = new Map(stations.map(station => [`${station.x},${station.y}`, station]));\n\
 \x20 lines.forEach(line => listStations(line, stationAt));\n\
+\x20 for (const [place, { length }] of groupsOf(ends, end => end).map(group => [group[0], group])) {\n\
+\x20   const station = stationAt.get(place);\n\
+\x20   if (station) station.isInterchange = length > 2 && station.lines.size > 1;\n\
+\x20 }\n\
 \x20 const measures = measuresOf(lines, stations);\n\
 \x20 takeOver(lines, stations, measures);\n\
 \x20 return {\n\
@@ -166,21 +182,41 @@ function readPicture(text) {\n\
 \x20 };\n\
 }\n\
 \n\
-/* Lines by number. The wider copy below a pale line of a poster is none. */\n\
+/* Lines by number, segments, and where segments end. The wider copy below a pale line of a poster is no line: it has a\n\
+\x20  width of its own in a group that has one. */\n\
 function readLines(root) {\n\
 \x20 const lines = new Map(), segments = new Map(), joins = [];\n\
 \x20 for (const element of root.querySelectorAll('path')) {\n\
 \x20   const [, kind, place, number] = /^([sn])(\\d+) l(\\d+)$/.exec(element.getAttribute('class')) || [];\n\
-\x20   const points = numbersOf(element, 'd');\n\
-\x20   if (!kind || points.length < 4 || points.length % 2 > 0 || element.getAttribute('stroke-width') === '14') continue;\n\
+\x20   const { points, bends } = cornersOf(element.getAttribute('d') || '');\n\
+\x20   const isCopy = element.hasAttribute('stroke-width') && element.parentElement.closest('[stroke-width]');\n\
+\x20   if (!kind || points.length < 4 || points.length % 2 > 0 || isCopy) continue;\n\
 \x20   if (!lines.has(number)) lines.set(number, newLine(number, element));\n\
-\x20   const way = { line: lines.get(number), points };\n\
+\x20   const way = { line: lines.get(number), points, bends };\n\
 \x20   if (kind === 's') segments.set(place, [...segments.get(place) || [], way]);\n\
 \x20   else joins.push(way);\n\
 \x20 }\n\
-\x20 segments.forEach(centreWays);\n\
+\x20 const ends = [...segments.values()].flatMap(centreWays);\n\
 \x20 joins.forEach(linkJoin);\n\
-\x20 return { lines, segments };\n\
+\x20 return { lines, segments, ends };\n\
+}\n\
+\n\
+/* The corners of a path, and how far from each of them its bend begins, 0 where it is sharp. A bend is a straight piece\n\
+\x20  to where it begins, and a curve by its corner to where it ends. */\n\
+function cornersOf(way) {\n\
+\x20 const points = [], bends = [];\n\
+\x20 for (const [, kind, told] of way.matchAll(/([A-Za-z])([^A-Za-z]*)/g)) {\n\
+\x20   const numbers = told.match(NUMBERS)?.map(Number) || [];\n\
+\x20   if (kind === 'Q' && points.length > 0) {\n\
+\x20     const [right, down] = points.splice(-2);\n\
+\x20     bends.splice(-1, 1, Math.hypot(numbers[0] - right, numbers[1] - down));\n\
+\x20     points.push(...numbers.slice(0, 2));\n\
+\x20   } else {\n\
+\x20     points.push(...numbers);\n\
+\x20     bends.push(...numbers.slice(0, numbers.length / 2).fill(0));\n\
+\x20   }\n\
+\x20 }\n\
+\x20 return { points, bends };\n\
 }\n\
 \n\
 function newLine(number, element) {\n\
@@ -235,23 +271,24 @@ function posterStation(group, lines) {\n\
 \n\
 const placeOf = (points, i) => `${points[i]},${points[i + 1]}`;\n\
 \n\
-/* The lines of a segment lie evenly about its middle: how far each is shifted from there. */\n\
+/* The lines of a segment lie evenly about its middle: how far each is shifted from there. Where the segment ends. */\n\
 function centreWays(ways) {\n\
 \x20 const first = ways[0].points, last = ways[ways.length - 1].points;\n\
 \x20 const centre = first.map((value, i) => (value + (last[i] ?? value)) / 2);\n\
-\x20 for (const { line, points } of ways) {\n\
+\x20 for (const { line, points, bends } of ways) {\n\
 \x20   const shift = centre.map((value, i) => (points[i] ?? value) - value);\n\
-\x20   line.ways.push({ centre, shift });\n\
+\x20   line.ways.push({ centre, shift, bends });\n\
 \x20   for (const i of [0, centre.length - 2]) {\n\
 \x20     line.ends.set(placeOf(points, i), [centre.slice(i, i + 2), shift.slice(i, i + 2)]);\n\
 \x20   }\n\
 \x20 }\n\
+\x20 return [placeOf(centre, 0), placeOf(centre, centre.length - 2)];\n\
 }\n\
 \n\
 /* A join leads between ends of a line, shifted with both. */\n\
 function linkJoin({ line, points }) {\n\
 \x20 const [from, to] = [0, 2].map(i => line.ends.get(placeOf(points, i)) || [points.slice(i, i + 2), [0, 0]]);\n\
-\x20 line.ways.push({ centre: [...from[0], ...to[0]], shift: [...from[1], ...to[1]] });\n\
+\x20 line.ways.push({ centre: [...from[0], ...to[0]], shift: [...from[1], ...to[1]], bends: [0, 0] });\n\
 }\n\
 \n\
 /* Lists the stations of a line from an end on, branch by branch: those where it calls, where that is told. */\n\
@@ -314,7 +351,9 @@ function takeOver(lines, stations, { widths, distances, left, top }) {\n\
 \x20 const placed = places => places.map((value, i) => (value - [left, top][i % 2]) * distances);\n\
 \x20 const widened = shift => shift.map(value => value * widths);\n\
 \x20 for (const line of lines) {\n\
-\x20   line.ways = line.ways.map(({ centre, shift }) => ({ centre: placed(centre), shift: widened(shift) }));\n\
+\x20   line.ways = line.ways.map(({ centre, shift, bends }) => (\n\
+\x20     { centre: placed(centre), shift: widened(shift), bends: bends.some(bend => bend > 0) ? widened(bends) : null }\n\
+\x20   ));\n\
 \x20 }\n\
 \x20 for (const station of stations) {\n\
 \x20   const [x, y] = placed([station.x, station.y]), feet = station.feet.map(widened), radius = station.radius * widths;\n\
@@ -447,17 +486,19 @@ const SIDES = [\n\
 ];\n\
 const pen = Object.assign(new OffscreenCanvas(1, 1).getContext('2d'), { lineCap: 'round', lineJoin: 'round' });\n\
 \n\
-/* Names, those of more lines first, where least is crossed and nothing taken. Some find none. */\n\
+/* Names, those of interchanges first and then those of more lines, where least is crossed and nothing taken; an\n\
+\x20  interchange is named over its lines too. Some find none. */\n\
 function placeNames(stations, squares, { letters, reachOf, most }) {\n\
 \x20 for (const station of stations) {\n\
 \x20   const reach = reachOf(station);\n\
 \x20   squares.crossed(station.x - reach, station.y - reach, 2 * reach, 2 * reach, true);\n\
 \x20 }\n\
 \x20 pen.font = '100px system-ui, sans-serif';\n\
-\x20 return stations.filter(({ name }) => name).sort((a, b) => b.lines.size - a.lines.size).flatMap(station => {\n\
+\x20 const weightOf = ({ isInterchange, lines }) => (isInterchange ? 1000 : 0) + lines.size;\n\
+\x20 return stations.filter(({ name }) => name).sort((a, b) => weightOf(b) - weightOf(a)).flatMap(station => {\n\
 \x20   station.ems ??= pen.measureText(station.name).width / 100;\n\
 \x20   const away = reachOf(station) + letters / 3, width = station.ems * letters, height = letters * 1.1;\n\
-\x20   let best, least = most * station.lines.size;\n\
+\x20   let best, least = most * weightOf(station);\n\
 \x20   SIDES.forEach(([right, down, before, above], side) => {\n\
 \x20     const [x, y] = [station.x + right * away - before * width, station.y + down * away - above * height];\n\
 \x20     const place = [x, y, width, height];\n\
@@ -474,6 +515,25 @@ const feetOf = ({ x, y, feet }, spread) => feet.map(([right, down]) => [x + righ
 const circleAt = ([x, y], r) => `M${x - r} ${y}a${r} ${r} 0 1 0 ${2 * r} 0a${r} ${r} 0 1 0 ${-2 * r} 0z`;\n\
 const rounded = places => 'M' + places.map(place => place.map(Math.round).join(' ')).join('L');\n\
 \n\
+/* A way as it is drawn, its places to a part of a unit. A bend begins at most half way to the corner before it, and ends\n\
+\x20  at most half way to that behind it. */\n\
+function textOf({ centre, shift, bends }, spread, parts) {\n\
+\x20 const to = value => Math.round(value * parts) / parts;\n\
+\x20 const at = centre.map((value, i) => to(value + shift[i] * spread));\n\
+\x20 if (!bends) return `M${at}`;\n\
+\x20 const corner = i => at.slice(2 * i, 2 * i + 2), last = at.length / 2 - 1;\n\
+\x20 const towards = ([x, y], [right, down], away) => {\n\
+\x20   const part = Math.min(.5, away / (Math.hypot(right - x, down - y) || 1));\n\
+\x20   return [to(x + (right - x) * part), to(y + (down - y) * part)];\n\
+\x20 };\n\
+\x20 let text = `M${corner(0)}`;\n\
+\x20 for (let i = 1; i < last; i++) {\n\
+\x20   const [before, here, behind] = [i - 1, i, i + 1].map(corner), away = (bends[i] || 0) * spread;\n\
+\x20   text += away > 0 ? `L${towards(here, before, away)}Q${here},${towards(here, behind, away)}` : `L${here}`;\n\
+\x20 }\n\
+\x20 return `${text}L${corner(last)}`;\n\
+}\n\
+\n\
 /* Lines and stations as shapes, with names where there is room. */\n\
 class Layer {\n\
 \x20 constructor(root, { left, top, width, height, parts }) {\n\
@@ -488,8 +548,9 @@ class Layer {\n\
 \x20 draw(look, part) {\n\
 \x20   const { edges, routes, markers, names, radii } = this;\n\
 \x20   if (this.spread !== look.spread) { this.spreadOut(look.spread); this.draw(look, part); return; }\n\
-\x20   edges.setAttribute('stroke-width', look.edge);\n\
+\x20   edges.setAttribute('stroke-width', look.stroke);\n\
 \x20   routes.setAttribute('stroke-width', look.stroke);\n\
+\x20   routes.style.setProperty('--thin', look.thin);\n\
 \x20   markers.lastElementChild.setAttribute('stroke-width', look.rim);\n\
 \x20   radii.forEach((radius, i) => {\n\
 \x20     markers.children[i].setAttribute('stroke-width', look.rimOf(radius));\n\
@@ -503,15 +564,16 @@ class Layer {\n\
 \x20   this.placed.forEach(({ station }, i) => { names.children[i].textContent = station.name; });\n\
 \x20 }\n\
 \n\
-\x20 /* The ways of lines, the edges below all of them, and the markers: those over several feet by size, all rims below\n\
+\x20 /* The ways of lines, which are thinner over an edge that is seen, the edges below all of them, and the markers: those over several feet by size, all rims below\n\
 \x20    all that fills them, then the circles as one. */\n\
 \x20 spreadOut(spread) {\n\
 \x20   this.spread = spread;\n\
-\x20   this.texts = this.lines.map(({ ways }) => ways.map(({ centre, shift }) => (\n\
-\x20     'M' + centre.map((value, i) => Math.round((value + shift[i] * spread) * this.parts) / this.parts)\n\
-\x20   )).join(''));\n\
+\x20   this.texts = this.lines.map(({ ways }) => ways.map(way => textOf(way, spread, this.parts)).join(''));\n\
 \x20   this.courses = this.texts.map(text => new Path2D(text));\n\
-\x20   this.routes.innerHTML = this.texts.map((text, i) => `<path color=\"${this.lines[i].colour}\" d=\"${text}\"/>`).join('');\n\
+\x20   this.routes.innerHTML = this.texts.map((text, i) => {\n\
+\x20     const { colour, edge } = this.lines[i];\n\
+\x20     return `<path class=\"${edge ? `thin-${edge.paper}` : ''}\" color=\"${colour}\" d=\"${text}\"/>`;\n\
+\x20   }).join('');\n\
 \x20   this.edges.innerHTML = this.texts.map((text, i) => {\n\
 \x20     const { edge } = this.lines[i];\n\
 \x20     return edge ? `<path class=\"${edge.paper}\" color=\"${edge.colour}\" d=\"${text}\"/>` : '';\n\
@@ -563,7 +625,8 @@ class View {\n\
 \x20   this.go(this.aim?.() || { scale: this.rest.scale, x: this.rest.x + right, y: this.rest.y + down }, true);\n\
 \x20 }\n\
 \n\
-\x20 /* Lines are neither too thin nor too fat, and bundles cover nothing beside them. */\n\
+\x20 /* Lines are neither too thin nor too fat, and bundles cover nothing beside them. A line with an edge is as wide with it\n\
+\x20    as others are without. */\n\
 \x20 lookAt(scale) {\n\
 \x20   const { step, widest } = this.map, room = Math.max(1, Math.min(5, 11 / widest * (step / APART)));\n\
 \x20   const wanted = Math.max(3.6, Math.min(STROKE * scale, 10)) / (STROKE * scale);\n\
@@ -571,7 +634,7 @@ class View {\n\
 \x20   const stroke = Math.max(STROKE * spread, 2.2 / scale), rim = Math.max(4 * spread, 1 / scale);\n\
 \x20   const rimOf = radius => 2 * spread * radius + rim;\n\
 \x20   return {\n\
-\x20     spread, stroke, rim, edge: stroke + Math.max(2 * spread, 2 / scale),\n\
+\x20     spread, stroke, rim, thin: stroke - Math.min(stroke * .45, Math.max(3 * spread, 1.4 / scale)),\n\
 \x20     rimOf, fillOf: radius => Math.max(0, rimOf(radius) - 2 * rim), reachOf: ({ reach }) => rimOf(reach) / 2,\n\
 \x20     letters: Math.max(12 / scale, Math.min(20, 16 / scale)), most: scale < 2 * this.whole().scale ? .7 : 9,\n\
 \x20   };\n\
@@ -911,9 +974,11 @@ function* shapesOf({ layers, look, lifted }) {\n\
 \x20 for (const layer of lifted ? layers : [layers[0]]) {\n\
 \x20   if (layer !== layers[0]) yield { veil: .8 };\n\
 \x20   for (const [i, { edge }] of layer.lines.entries()) {\n\
-\x20     if (edge?.paper === 'on-white') yield { d: layer.texts[i], colour: edge.colour, width: look.edge };\n\
+\x20     if (edge?.paper === 'on-white') yield { d: layer.texts[i], colour: edge.colour, width: look.stroke };\n\
 \x20   }\n\
-\x20   for (const [i, { colour }] of layer.lines.entries()) yield { d: layer.texts[i], colour, width: look.stroke };\n\
+\x20   for (const [i, { colour, edge }] of layer.lines.entries()) {\n\
+\x20     yield { d: layer.texts[i], colour, width: edge?.paper === 'on-white' ? look.thin : look.stroke };\n\
+\x20   }\n\
 \x20   for (const [colour, widthOf] of [[INK, look.rimOf], [PAPER, look.fillOf]]) {\n\
 \x20     for (const [i, radius] of layer.radii.entries()) yield { d: layer.marks[i], colour, width: widthOf(radius) };\n\
 \x20   }\n\

@@ -14,11 +14,9 @@ pub fn limit_hint(kind: LimitKind) -> &'static str {
             "draw fewer lines (the key types, or edits with hide); a larger near joins ways that lie side by side"
         }
         LimitKind::Samples | LimitKind::NetPoints => {
-            "draw fewer lines (the key types); a larger near takes fewer points; is a station far from all others?"
+            "draw fewer lines (the key types, or edits with hide); a larger near takes fewer points"
         }
-        LimitKind::Cells => {
-            "take a larger cell, or 0 for one that fits the network; is a station far from all others?"
-        }
+        LimitKind::Cells => { "take a larger cell, or 0 for one that fits the network" }
         LimitKind::Terms | LimitKind::Places => {
             "too many lines run side by side: draw fewer (the key types, or edits with hide)"
         }

@@ -1,5 +1,6 @@
 -- What `page` does.
-use Rattle.std.specs.Prelude.{ℕ, List, [], ◌∷◌, Option, None, Some, Result, Ok, Err}
+use Rattle.std.specs.Prelude.{ℕ, Bool, List, [], ◌∷◌, codes, nat_eq, Option, None, Some, Result, Ok, Err, if◌then◌else◌}
+use Rattle.std.specs.List.{starts_with}
 use Rattle.files_door.specs.declared.target.Target.TheVariants.{Path}
 use Rattle.map_page.specs.Pages.{page_bytes}
 use Rattle.command_run.specs.declared.output.Output.{Output}
@@ -10,14 +11,19 @@ use Rattle.run_status.specs.declared.refusal.Refusal.{Refusal}
 use Rattle.run_status.specs.declared.refusal.Refusal.TheVariants as refused
 use Rattle.command_inputs.specs.Loading.{file_work}
 
+-- a picture of octimap, be it a map, one with its names at free places, a geographic one or a poster: its first bytes
+-- are those with which each of these begins
+unfoldable pub is_picture : List ℕ → Bool
+is_picture bytes = starts_with nat_eq bytes (codes "<svg xmlns=\"http://www.w3.org/2000/svg\" version=\"1.1\" viewBox=\"")
+
 -- the page of a map goes to its file
 abbrev pub page_outputs : List ℕ → List ℕ → List Output
 page_outputs page svg = record { to = Path page; bytes = page_bytes svg } ∷ []
 
--- the page of a map, which has to be there
+-- the page of a map, which has to be there and to be a picture of octimap
 abbrev pub page_at : List ℕ → Option (List ℕ) → Result (List Output) Refusal
 page_at page None = Err (refused.Missing input.Picture)
-page_at page (Some svg) = Ok (page_outputs page svg)
+page_at page (Some svg) = if is_picture svg then Ok (page_outputs page svg) else Err (refused.Missing input.Picture)
 
 -- `page`: the map is read, and its page is written
 abbrev pub page_work : List ℕ → Work Input Refusal (List Output)

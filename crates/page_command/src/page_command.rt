@@ -1,10 +1,10 @@
 //! The command `page`.
 
-ghost use Rattle.std.specs.Prelude.{◌≡◌, option_map, IfOk};
+ghost use Rattle.std.specs.Prelude.{◌≡◌, Some, option_map, IfOk};
 ghost use Rattle.files_door.specs.Fault.{Rose};
 ghost use Rattle.run_status.specs.Following.{Follows, Gives};
 ghost use Rattle.command_inputs.specs.Inputs.{input_at, inputs_by};
-ghost use Rattle.page_command.specs.PageWorks.{page_at, page_outputs, page_work};
+ghost use Rattle.page_command.specs.PageWorks.{is_picture, page_at, page_outputs, page_work};
 
 use command_inputs::{Inputs, read_file};
 use command_run::Output;
@@ -14,7 +14,8 @@ use map_page::page_of;
 use run_status::{Input, Refusal};
 use std::alloc::Global;
 
-/// Makes the page at a path of a command's map, which has to be there.
+/// Makes the page at a path of a command's map, which has to be there and to be a picture of octimap: a map or a
+/// poster, by its first bytes.
 #[inline(never)]
 pub fn show_map<F: Files>(
     alloc: Global,
@@ -29,16 +30,41 @@ pub fn show_map<F: Files>(
     page_at(alloc, page, bytes)
 }
 
-/// The page of a map, if that is there.
+/// Whether a file is a picture of octimap, by its first bytes.
+#[tactic(auto, unfolding(crate::specs::PageWorks::is_picture))]
+fn is_picture(bytes: &[u8]) -> bool
+    ensures { result ≡ is_picture bytes.now }
+{
+    bytes.starts_with(b"<svg xmlns=\"http://www.w3.org/2000/svg\" version=\"1.1\" viewBox=\"")
+}
+
+/// The page of a map, if that is there and a picture.
 fn page_at(alloc: Global, page: &str, bytes: Option<Vec<u8>>) -> Result<Sequence<Output>, Refusal>
     ensures { Gives (λ outputs. outputs) result (page_at page.now (option_map (λ v. v.items) bytes)) }
 {
     let Some(bytes) = bytes else {
-        return Err(Refusal::Missing {
-            input: Input::Picture,
-        });
+        return Err(no_picture());
     };
-    Ok(write_page(alloc, page, bytes.as_slice())?)
+    page_of_bytes(alloc, page, bytes.as_slice())
+}
+
+/// The page of these bytes, if they are a picture.
+fn page_of_bytes(alloc: Global, page: &str, bytes: &[u8]) -> Result<Sequence<Output>, Refusal>
+    ensures { Gives (λ outputs. outputs) result (page_at page.now (Some bytes.now)) }
+{
+    if is_picture(bytes) {
+        return Ok(write_page(alloc, page, bytes)?);
+    }
+    Err(no_picture())
+}
+
+/// The map of which the page is to be made is not there, or no picture.
+fn no_picture() -> Refusal
+    ensures { result ≡ Refusal.Missing Input.Picture }
+{
+    Refusal::Missing {
+        input: Input::Picture,
+    }
 }
 
 /// The one output of a map's page to its file.

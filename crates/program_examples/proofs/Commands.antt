@@ -17,7 +17,7 @@ use Rattle.run_status.specs.declared.status.Status.TheVariants as status
 use Rattle.command_words.specs.Asked.{graph, make, check, page}
 use Rattle.map_page.specs.Pages.{page_bytes}
 use Rattle.command_paths.specs.Paths.{Chosen, MapPaths, NewPaths}
-use Rattle.page_command.specs.PageWorks.{page_work}
+use Rattle.page_command.specs.PageWorks.{is_picture, page_at, page_work}
 use Rattle.asked_inputs.specs.Inputs.{input_path}
 use Rattle.run_status.specs.Outputs.{said}
 use Rattle.table_commands.specs.TableWorks.{graph_work}
@@ -172,6 +172,11 @@ bad_edit_number = refl
 -- a map that is to be shown has to be there
 no_map_to_show : outcome (page_work (codes "m.html")) (λ _. None) ≡ Err (refused.Missing input.Picture)
 no_map_to_show = refl
+
+-- and it has to be a picture: a certificate is none
+no_picture_to_show : page_at (codes "m.html") (Some (codes "octimap 1\n")) ≡ Err (refused.Missing input.Picture)
+unfolding is_picture
+no_picture_to_show = refl
 
 shown_path : input_path (page (codes "m.svg") (codes "m.html")) input.Picture ≡ codes "m.svg"
 shown_path = refl

@@ -3,7 +3,8 @@
 use crate::feed_path::missing_table;
 use crate::near_word::question;
 use file_lookup::{
-    FoundRow, Sought, bytes_at, earlier_row, ids_at, lacking_column, other_names, row_at, sought_in,
+    FoundRow, Sought, bytes_at, earlier_row, ids_at, lacking_column, other_names, row_around,
+    row_at, sought_in,
 };
 use map_base::NoMemory;
 use message_texts::{column_of, due_in, id_column, list_of, quoted};
@@ -196,10 +197,16 @@ fn bad_field(
     )?)
 }
 
-/// What is said of a row that has more fields than the header; empty where it hasn't.
+/// What is said of a row that has more fields than the header, or a field of several lines; empty where it has neither.
 fn more_fields(alloc: Global, found: &FoundRow) -> Result<String, NoMemory> {
     let count = found.fields.len();
     let columns = found.header.len();
+    if found.fields.iter().any(|field| field.contains(&b'\n')) {
+        return Ok(String::from_str(
+            alloc,
+            "; a field of the row goes on over several lines: is a quote not closed?",
+        )?);
+    }
     if count <= columns {
         return Ok(String::new(alloc));
     }
@@ -250,33 +257,72 @@ fn unknown<R: Files + AllocGlobal>(
         return Ok(String::new(alloc));
     };
     let value = found.field(column);
-    let due = match bad.why {
-        Why::UnknownRoute => no_such(rt, feed, bad, "routes.txt", "route_id", value)?,
-        Why::UnknownTrip => no_such(rt, feed, bad, "trips.txt", "trip_id", value)?,
-        _ => match type_of_stop(rt, feed, value)? {
-            Some(kind) => other_kind(alloc, bad.why, kind.as_slice())?,
-            None => no_such(rt, feed, bad, "stops.txt", "stop_id", value)?,
-        },
+    let kind = match bad.why {
+        Why::UnknownRoute | Why::UnknownTrip => None,
+        _ => type_of_stop(rt, feed, value)?,
     };
-    bad_field(alloc, bad, found, "", due.as_str())
+    if let Some(kind) = kind {
+        let due = other_kind(alloc, bad.why, kind.as_slice())?;
+        return bad_field(alloc, bad, found, "", due.as_str());
+    }
+    let mut text = around(rt, feed, bad.why, value)?;
+    let due = no_such(rt, feed, bad, value)?;
+    let line = bad_field(alloc, bad, found, "", due.as_str())?;
+    text.push_str(line.as_str())?;
+    Ok(text)
 }
 
-/// What is said of an id that no row of a table has, and which one may be meant.
+/// The table and the column in which an id has to stand that a row names.
+fn home_of(why: Why) -> (&'static str, &'static str) {
+    match why {
+        Why::UnknownRoute => ("routes.txt", "route_id"),
+        Why::UnknownTrip => ("trips.txt", "trip_id"),
+        _ => ("stops.txt", "stop_id"),
+    }
+}
+
+/// What is said of an id that no row of its table has, and which one may be meant.
 #[inline(never)]
 fn no_such<R: Files + AllocGlobal>(
     rt: &R,
     feed: &str,
     bad: BadRow,
-    table: &str,
-    column: &str,
     value: &[u8],
 ) -> Result<String, NoMemory> {
     let alloc = rt.alloc();
+    let (table, column) = home_of(bad.why);
     let path = format!(in alloc; "{feed}/{table}")?;
     let ids = ids_at(rt, path.as_str(), column)?;
     let near = question(alloc, value, ids.as_slice())?;
     let due = due_in(bad.table, bad.why);
     Ok(format!(in alloc; "{due}{near}")?)
+}
+
+/// The line for the row of its table in which an id stands inside a field of several lines, as it does behind a quote
+/// that was not closed; empty where there is no such row.
+#[inline(never)]
+fn around<R: Files + AllocGlobal>(
+    rt: &R,
+    feed: &str,
+    why: Why,
+    value: &[u8],
+) -> Result<String, NoMemory> {
+    let alloc = rt.alloc();
+    let (table, column) = home_of(why);
+    let path = format!(in alloc; "{feed}/{table}")?;
+    let Some(bytes) = bytes_at(rt, path.as_str())? else {
+        return Ok(String::new(alloc));
+    };
+    let Some((row, field)) = row_around(alloc, bytes.as_slice(), value)? else {
+        return Ok(String::new(alloc));
+    };
+    let value = quoted(alloc, value)?;
+    let lines = count_of(field.as_slice(), b'\n').saturating_add(1);
+    let field = quoted(alloc, field.as_slice())?;
+    Ok(format!(in alloc;
+        "octimap: {table}, row {row}: a field has {lines} lines, and {column} {value} stands in it: {field}; is a quote \
+        not closed there?\n"
+    )?)
 }
 
 /// What is said of an id that a row of stops.txt has whose type doesn't do.

@@ -1,9 +1,8 @@
-//! A map that was made, and shows nothing; and one with stations far from all others.
+//! A map that was made, and shows nothing.
 
-use crate::station_words::far_line;
 use command_inputs::Inputs;
 use command_words::Command;
-use file_lookup::{RouteTypes, begins_with, has_far_stations, network_of, route_types};
+use file_lookup::{RouteTypes, begins_with, each_once, route_types};
 use map_base::NoMemory;
 use message_texts::quoted;
 use std::alloc::Global;
@@ -27,8 +26,8 @@ pub(crate) fn blank_map<R: Files + AllocGlobal>(
     inputs: &Inputs<'_>,
 ) -> Result<String, NoMemory> {
     match command {
-        Command::Make { files, .. } => of_certificate(rt, command, files.map.certificate, inputs),
-        Command::Improve { files, .. } => of_certificate(rt, command, files.certificate, inputs),
+        Command::Make { files, .. } => of_file(rt, files.map.certificate, OF_NOTHING, inputs),
+        Command::Improve { files, .. } => of_file(rt, files.certificate, OF_NOTHING, inputs),
         Command::Import { graph, files, .. } => of_graph_file(rt, graph, files.certificate),
         Command::Depict { certificate, .. } => of_file(rt, certificate, OF_NOTHING, inputs),
         Command::Export { out, .. } => of_file(rt, out, NO_FEATURES, inputs),
@@ -37,21 +36,7 @@ pub(crate) fn blank_map<R: Files + AllocGlobal>(
     }
 }
 
-/// The lines, by the certificate that was written.
-fn of_certificate<R: Files + AllocGlobal>(
-    rt: &R,
-    command: &Command<'_>,
-    certificate: &str,
-    inputs: &Inputs<'_>,
-) -> Result<String, NoMemory> {
-    if begins_with(rt, certificate, OF_NOTHING) {
-        routes_line(rt, inputs)
-    } else {
-        of_far_stations(rt, command, inputs)
-    }
-}
-
-/// The lines for a picture or a graph file, where a file begins as that of nothing does.
+/// The lines for a map, a picture or a graph file, where a file begins as that of nothing does.
 fn of_file<R: Files + AllocGlobal>(
     rt: &R,
     path: &str,
@@ -79,23 +64,6 @@ fn of_graph_file<R: Files + AllocGlobal>(
     Ok(format!(in alloc; "octimap: the map shows nothing: {shown} has no nodes\n")?)
 }
 
-/// A line for stations of the map that lie far from all others. The network is looked at only where the feed has such
-/// stations.
-fn of_far_stations<R: Files + AllocGlobal>(
-    rt: &R,
-    command: &Command<'_>,
-    inputs: &Inputs<'_>,
-) -> Result<String, NoMemory> {
-    let alloc = rt.alloc();
-    if !has_far_stations(rt, inputs.feed)? {
-        return Ok(String::new(alloc));
-    }
-    match network_of(rt, command, inputs)? {
-        Some(network) => far_line(alloc, &network),
-        None => Ok(String::new(alloc)),
-    }
-}
-
 /// Which routes the feed has, and what to do.
 fn routes_line<R: Files + AllocGlobal>(rt: &R, inputs: &Inputs<'_>) -> Result<String, NoMemory> {
     let alloc = rt.alloc();
@@ -114,7 +82,7 @@ fn of_routes<R: Files + AllocGlobal>(rt: &R, inputs: &Inputs<'_>) -> Result<Stri
     let Some(types) = route_types(rt, inputs)? else {
         return Ok(String::new(alloc));
     };
-    if types.left_out.len() == types.all.len() {
+    if types.drawn.is_empty() {
         types_line(alloc, &types)
     } else {
         Ok(String::new(alloc))
@@ -123,24 +91,32 @@ fn of_routes<R: Files + AllocGlobal>(rt: &R, inputs: &Inputs<'_>) -> Result<Stri
 
 /// Which types the routes have that are not drawn, and what to do.
 fn types_line(alloc: Global, types: &RouteTypes) -> Result<String, NoMemory> {
-    if types.all.is_empty() {
-        return Ok(format!(in alloc; "octimap: the map shows nothing: routes.txt has no routes\n")?);
-    }
     if types.left_out.is_empty() {
-        return Ok(format!(in alloc;
-            "octimap: the map shows nothing: each route of a type that is drawn has no trip between two stations, or is \
-            hidden\n"
-        )?);
+        let why = if types.drawn.is_empty() {
+            "routes.txt has no routes"
+        } else {
+            "each route of a type that is drawn has no trip between two stations, or is hidden"
+        };
+        return Ok(format!(in alloc; "octimap: the map shows nothing: {why}\n")?);
     }
-    let count = types.routes;
-    let left_out = list_of_types(alloc, types.left_out.as_slice())?;
-    let all = list_of_types(alloc, types.all.as_slice())?;
+    let count = types.left_out.len();
+    let kinds = each_once(types.left_out.as_slice().to_vec(alloc)?)?;
+    let left_out = list_of_types(alloc, kinds.as_slice())?;
+    let all = list_with(alloc, types.drawn.as_slice(), kinds.as_slice())?;
     Ok(format!(in alloc;
         "octimap: the map shows nothing: each route is of a type that is not drawn, has no trip between two stations, or \
         is hidden\n\
         octimap: routes in routes.txt that are not drawn: {count}; their types: {left_out}; to draw them, add --set \
         'types=[{all}]'\n"
     )?)
+}
+
+/// The types of two lists, each once and rising, with a comma between them: the first hundred.
+pub(crate) fn list_with(alloc: Global, some: &[u32], more: &[u32]) -> Result<String, NoMemory> {
+    let mut types = some.to_vec(alloc)?;
+    types.extend_from_slice(more)?;
+    let types = each_once(types)?;
+    list_of_types(alloc, types.as_slice())
 }
 
 /// Types with a comma between them: the first hundred.

@@ -4,18 +4,19 @@ use crate::bad_edit::bad_edit;
 use crate::bad_graph::bad_graph;
 use crate::bad_row::{BadRow, bad_row};
 use crate::bad_settings::bad_settings;
-use crate::blank_map::blank_map;
+use crate::done::done;
 use crate::files::{missing, unread, unwritten};
-use crate::limits::{above, no_memory, spent};
+use crate::limits::{above, no_memory};
+use crate::no_picture::no_picture;
 use crate::no_route::no_route;
 use crate::refuted::refuted;
+use crate::spent::spent;
 use asked_inputs::inputs_of;
 use command_inputs::Inputs;
 use command_words::{Command, command_of};
 use disk_files::WriteError;
 use map_base::NoMemory;
 use run_status::Status;
-use std::alloc::Global;
 use std::rt::Files;
 
 /// The lines that standard error gets after a run of the program on these words that ended with this status, each with
@@ -42,13 +43,13 @@ fn of_command<R: Files + AllocGlobal + Clone + Drop>(
 ) -> Result<String, NoMemory> {
     let inputs = inputs_of(command);
     match status {
-        Status::Done => blank_map(rt, command, &inputs),
+        Status::Done => done(rt, command, &inputs),
         Status::WriteFault => unwritten(rt.alloc(), command, fault),
         Status::BadEdit { line } => bad_edit(rt, &inputs, *line),
         Status::NoRoute { seg } => no_route(rt, command, &inputs, *seg),
-        Status::Spent { .. } | Status::Limit(_) | Status::NoMemory => {
-            of_size(rt.alloc(), is_import(command), status)
-        }
+        Status::Spent { branches, .. } => spent(rt, command, &inputs, *branches),
+        Status::Limit(limit) => above(rt, command, &inputs, *limit),
+        Status::NoMemory => no_memory(rt, command, &inputs),
         _ => of_inputs(rt, &inputs, status),
     }
 }
@@ -66,7 +67,7 @@ fn of_inputs<R: Files + AllocGlobal + Clone + Drop>(
             bad_row(rt, inputs.feed, BadRow { table, row, why })
         }
         Status::Refuted(item) => refuted(rt, inputs, item),
-        Status::Missing { path } => missing(rt, path.as_str()),
+        Status::Missing { path } => no_picture(rt, path.as_str()),
         Status::ReadFault { path } => unread(rt, path.as_str()),
         Status::BadSettings(why) => bad_settings(rt, &inputs.options, why),
         Status::BadGraph(why) => bad_graph(rt, inputs.script, *why),
@@ -78,22 +79,5 @@ fn of_inputs<R: Files + AllocGlobal + Clone + Drop>(
         | Status::Spent { .. }
         | Status::Limit(_)
         | Status::NoMemory => Ok(String::new(alloc)),
-    }
-}
-
-/// The lines where there is more of something than is worked on.
-fn of_size(alloc: Global, of_graph: bool, status: &Status) -> Result<String, NoMemory> {
-    match status {
-        Status::Spent { branches, .. } => spent(alloc, *branches, of_graph),
-        Status::Limit(limit) => above(alloc, *limit, of_graph),
-        _ => no_memory(alloc, of_graph),
-    }
-}
-
-/// Whether the command makes a map of a file with a line graph.
-pub(crate) fn is_import(command: &Command<'_>) -> bool {
-    match command {
-        Command::Import { .. } => true,
-        _ => false,
     }
 }

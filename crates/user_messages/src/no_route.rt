@@ -1,14 +1,13 @@
 //! No grid gives each segment a way.
 
-use crate::messages::is_import;
-use crate::set_keys::{is_set, set_value};
-use crate::station_words::{far_line, node_name};
+use crate::fewer_lines::is_import;
+use crate::set_keys::{is_map, is_plain_make, is_set, set_value};
+use crate::station_words::{far_off_line, node_name};
 use command_inputs::Inputs;
 use command_paths::Options;
 use command_words::Command;
 use file_lookup::{Network, network_of};
 use map_base::{NoMemory, SegId};
-use map_method::Defaults;
 use std::alloc::Global;
 use std::rt::Files;
 
@@ -28,7 +27,7 @@ pub(crate) fn no_route<R: Files + AllocGlobal>(
     if let Some(network) = network_of(rt, command, inputs)? {
         let line = between(alloc, &network, seg)?;
         text.push_str(line.as_str())?;
-        let line = far_line(alloc, &network)?;
+        let line = far_off_line(alloc, &network)?;
         text.push_str(line.as_str())?;
         most = meeting(&network, seg);
     }
@@ -77,20 +76,58 @@ fn hint<R: Files + AllocGlobal>(
     options: &Options<'_>,
     most: usize,
 ) -> Result<String, NoMemory> {
-    let alloc = rt.alloc();
-    let is_import = is_import(command);
     if most > DIRECTIONS {
-        return Ok(String::from_str(alloc, fewer_there(is_import))?);
+        return Ok(String::from_str(rt.alloc(), fewer_there(is_import(command)))?);
     }
+    more_room(rt, command, options)
+}
+
+/// What may do where lines have too little room: keys that give more of it, by what is not set already, or fewer lines.
+pub(crate) fn more_room<R: Files + AllocGlobal>(
+    rt: &R,
+    command: &Command<'_>,
+    options: &Options<'_>,
+) -> Result<String, NoMemory> {
+    let alloc = rt.alloc();
     let mut text = String::new(alloc);
     text.push_str(smaller_cell(rt, options)?)?;
-    let line = if is_import {
-        in_graph(rt, options)?
-    } else {
-        in_feed(rt, options)?
-    };
+    if lacks_tries(rt, options)? {
+        text.push_str(as_map(rt, command, options)?)?;
+        return Ok(text);
+    }
+    if is_import(command) {
+        text.push_str("octimap: place stations farther apart, or leave out lines\n")?;
+        return Ok(text);
+    }
+    let line = in_feed(rt, options)?;
     text.push_str(line.as_str())?;
     Ok(text)
+}
+
+/// Whether fewer grids are tried than `map` tries, and the user set no other number of them.
+fn lacks_tries<R: Files + AllocGlobal>(rt: &R, options: &Options<'_>) -> Result<bool, NoMemory> {
+    if is_map(rt, options)? {
+        return Ok(false);
+    }
+    let finest = is_set(rt, options, "finest")?;
+    let spread = is_set(rt, options, "spread")?;
+    Ok(!finest || !spread)
+}
+
+/// How finer grids and room for a dense centre are asked for, as `map` has them.
+fn as_map<R: Files + AllocGlobal>(
+    rt: &R,
+    command: &Command<'_>,
+    options: &Options<'_>,
+) -> Result<&'static str, NoMemory> {
+    if is_plain_make(rt, command, options)? {
+        return Ok(
+            "octimap: `octimap map` in place of make tries finer grids, and gives a dense centre room\n",
+        );
+    }
+    Ok(
+        "octimap: --set 'method=\"map\"' tries finer grids, and gives a dense centre room, as `octimap map` does\n",
+    )
 }
 
 /// What may do where more segments meet than have room, on each grid.
@@ -114,51 +151,9 @@ fn smaller_cell<R: Files + AllocGlobal>(
     Ok("octimap: a smaller cell, or 0, has more room\n")
 }
 
-/// The keys that give more room and are not set, as words of a command line.
-fn room_words<R: Files + AllocGlobal>(
-    rt: &R,
-    options: &Options<'_>,
-) -> Result<&'static str, NoMemory> {
-    let finest = is_set(rt, options, "finest")?;
-    let spread = is_set(rt, options, "spread")?;
-    if finest && spread {
-        return Ok("");
-    }
-    if finest {
-        return Ok("--set 'spread=\"auto\"'");
-    }
-    if spread {
-        return Ok("--set finest=16");
-    }
-    Ok("--set finest=16 and --set 'spread=\"auto\"'")
-}
-
-/// What may do for the map of a graph file.
-fn in_graph<R: Files + AllocGlobal>(rt: &R, options: &Options<'_>) -> Result<String, NoMemory> {
-    let alloc = rt.alloc();
-    let words = room_words(rt, options)?;
-    if words.is_empty() {
-        return Ok(String::from_str(
-            alloc,
-            "octimap: place stations farther apart, or leave out lines\n",
-        )?);
-    }
-    Ok(format!(in alloc;
-        "octimap: finer grids and room for a dense centre may do, as by {words}; or place stations farther apart\n"
-    )?)
-}
-
 /// What may do for the map of a feed.
 fn in_feed<R: Files + AllocGlobal>(rt: &R, options: &Options<'_>) -> Result<String, NoMemory> {
     let alloc = rt.alloc();
-    if options.defaults == Defaults::Make {
-        let words = room_words(rt, options)?;
-        if !words.is_empty() {
-            return Ok(format!(in alloc;
-                "octimap: `octimap map` tries finer grids and gives a dense centre room; here {words} may do\n"
-            )?);
-        }
-    }
     let near = if is_set(rt, options, "near")? {
         ""
     } else {

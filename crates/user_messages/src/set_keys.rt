@@ -2,8 +2,10 @@
 
 use crate::bad_settings::value_of;
 use command_paths::{Options, next_set};
+use command_words::Command;
 use file_lookup::bytes_at;
 use map_base::NoMemory;
+use map_method::Defaults;
 use std::alloc::Global;
 use std::rt::Files;
 
@@ -15,6 +17,32 @@ pub(crate) fn is_set<R: Files + AllocGlobal>(
 ) -> Result<bool, NoMemory> {
     let value = set_value(rt, options, key)?;
     Ok(!value.is_empty())
+}
+
+/// Whether settings hold like those of `map` where the user sets none: by the key `method`, or else by the command.
+pub(crate) fn is_map<R: Files + AllocGlobal>(
+    rt: &R,
+    options: &Options<'_>,
+) -> Result<bool, NoMemory> {
+    let method = set_value(rt, options, "method")?;
+    if method.is_empty() {
+        return Ok(options.defaults == Defaults::Map);
+    }
+    Ok(method.as_str() == "\"map\"")
+}
+
+/// Whether the command is `make`, and `map` in its place would do as `map` does: no key says otherwise.
+pub(crate) fn is_plain_make<R: Files + AllocGlobal>(
+    rt: &R,
+    command: &Command<'_>,
+    options: &Options<'_>,
+) -> Result<bool, NoMemory> {
+    match command {
+        Command::Make { .. } => {
+            Ok(options.defaults == Defaults::Make && !is_set(rt, options, "method")?)
+        }
+        _ => Ok(false),
+    }
 }
 
 /// What the user set a key to, as TOML writes it: by the last `--set` that has the key, or else in the file of
