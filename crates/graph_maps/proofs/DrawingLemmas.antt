@@ -58,11 +58,6 @@ there_by : (importance : List ℕ) (choices : Choices) (parts : GraphParts) (rou
 there_by importance choices parts (Ok walks) x h = there_with parts walks (problem_within importance choices parts) x h
 there_by importance choices parts (Err stop) x h = cc
 
-pub graph_there : (importance : List ℕ) (choices : Choices) (method : MethodChoices) (graph : GraphParts) (x : Drawn)
-    → drawn_on importance choices method graph ≡ Ok x → graph ≡ x.graph
-graph_there importance choices method graph x h =
-    (there_by importance choices graph (drawing_outcome graph choices.cell method.spread method.finest method.straight) x h).0
-
 pub problem_there : (importance : List ℕ) (choices : Choices) (method : MethodChoices) (graph : GraphParts) (x : Drawn)
     → drawn_on importance choices method graph ≡ Ok x → problem_within importance choices x.graph ≡ Ok x.problem
 problem_there importance choices method graph x h =
