@@ -1,5 +1,5 @@
 -- What terms add to the rows of a segment.
-use Rattle.std.proofs.Common.{◌≡◌, ℕ, ◌*◌, ◌==◌, ◌||◌, ◌&&◌, Bool, true, false, cond, List, ◌∷◌, length, get_or, refl, ap, subst, arith, true≢false}
+use Rattle.std.proofs.Common.{◌≡◌, ℕ, ◌*◌, ◌==◌, ◌||◌, ◌&&◌, Bool, true, false, cond, List, [], ◌∷◌, length, get_or, refl, ap, subst, arith, true≢false}
 use Rattle.std.specs.Prelude.{ℤ, pos, ◌+ℤ◌, ◌-ℤ◌}
 use Rattle.std.proofs.lemmas.Int.{ints}
 use Rattle.map_base.specs.declared.ids.SegId.{SegId}
@@ -43,6 +43,14 @@ less_nothing : (v w : ℤ) → v ≡ pos 0 → w ≡ pos 0 → v -ℤ w ≡ pos 
 less_nothing v w h k = omega (arith, ints, h, k)
 
 -- A Side.
+
+pub side_added : (lines : List LineId) (p : ℤ) (s seg : SegId) (first second : LineId) (w : ℕ) (before_old before_new beside : List ℤ)
+    → IsAddedBefore lines (costs_where (seg.0 == s.0) (cost_before second first (pos (thousand * w)))) before_old before_new
+    → HaveAdded lines (term_costs p s (Side seg first second w)) before_old beside before_new beside
+side_added lines p s seg first second w before_old before_new beside h = record {
+  before_added = h;
+  beside_added = λ i j here there. still (entry (length lines) beside (line_at i) (line_at j)) ((costs_where (seg.0 == s.0) (cost_before second first (pos (thousand * w)))).beside (named lines (line_at i)) (named lines (line_at j)))
+      (flat_where (seg.0 == s.0) (cost_before second first (pos (thousand * w))) (named lines (line_at i)) (named lines (line_at j)) refl);
 }
 
 -- A Link, at its other end and then at its first.
@@ -142,6 +150,11 @@ sum_on f terms s (n ∷ numbers) h = by_test (is_on s (get_or terms n no_term)) 
         → int_sum f (terms_by_number terms (cond b (n ∷ numbers_on terms numbers s) (numbers_on terms numbers s))) ≡ f (n, get_or terms n no_term) +ℤ int_sum f (terms_by_number terms numbers)
     by_test true e rest = ap (λ v. f (n, get_or terms n no_term) +ℤ v) rest
     by_test false e rest = let none = h (n, get_or terms n no_term) e in omega (arith, ints, rest, none)
+
+-- what two lines cost by their order alone, or as neighbours alone
+pub before_alone : (lines : List LineId) (first second : LineId) (amount : ℤ) (before_old before_new beside : List ℤ) → IsAddedBefore lines (cost_before first second amount) before_old before_new
+    → HaveAdded lines (cost_before first second amount) before_old beside before_new beside
+before_alone lines first second amount before_old before_new beside h = record { before_added = h; beside_added = λ i j here there. more_of_nothing (entry (length lines) beside (line_at i) (line_at j)) }
 
 pub beside_alone : (lines : List LineId) (a b : LineId) (amount : ℤ) (before beside_old beside_new : List ℤ) → IsAddedBeside lines (cost_beside a b amount) beside_old beside_new
     → HaveAdded lines (cost_beside a b amount) before beside_old before beside_new

@@ -1,8 +1,8 @@
 -- Places of lines, entries of rows, and what is added to them.
-use Rattle.std.proofs.Common.{◌≡◌, ◌≢◌, ℕ, zero, suc, ◌+◌, ◌*◌, ◌<◌, ◌≤◌, ◌==◌, ◌||◌, ◌&&◌, Bool, true, false, cond, List, ◌∷◌, length, get_or, refl, sym, ◌∙◌, ap, subst, arith, ◌⊎◌, inl, inr, true≢false, eq-eqb, eqb-true}
+use Rattle.std.proofs.Common.{◌≡◌, ◌≢◌, ℕ, zero, suc, ◌+◌, ◌*◌, ◌<◌, ◌≤◌, ◌==◌, ◌||◌, ◌&&◌, Bool, true, false, cond, List, [], ◌∷◌, length, set, get_or, refl, sym, ◌∙◌, ap, subst, arith, ◌⊎◌, inl, inr, true≢false, eq-eqb, eqb-true, get_or-set_same, get_or-set_other}
 use Rattle.std.specs.Prelude.{ℤ, pos, ◌+ℤ◌, ◌-ℤ◌, unsigned_abs}
 use Rattle.std.proofs.Math.Nat.{mul-le-mul_left, mul-le-mul_right, suc-mul}
-use Rattle.std.proofs.lemmas.Bool.{and_parts, cases_order, ne_eqb, eqb-false}
+use Rattle.std.proofs.lemmas.Bool.{and_parts, cases_eq, cases_order, ne_eqb, eqb-false}
 use Rattle.std.proofs.lemmas.Int.{ints}
 use Rattle.map_base.specs.declared.ids.LineId.{LineId}
 use Rattle.graph_core.specs.Consistent.{AreRising}
@@ -12,7 +12,7 @@ use Rattle.least_orders.specs.OrderCosts.{PairCosts, no_costs, cost_before, cost
 use Rattle.least_orders.specs.Rows.{line_at, named}
 use Rattle.least_orders.proofs.Renaming.{same_name}
 use Rattle.dual_bound.specs.ShareCosts.{costs_where}
-use Rattle.dual_shares.specs.RowSteps.{row_entry, TellPairs, IsAddedAt, IsAddedBefore, IsAddedBeside, IsMoreBy, AreTwoOf, most_where}
+use Rattle.dual_shares.specs.RowSteps.{row_entry, TellPairs, AreSmall, IsAddedAt, IsAddedBefore, IsAddedBeside, IsMoreBy, IsRoomy, AreTwoOf, most_where}
 
 -- Places.
 
@@ -80,6 +80,15 @@ same_entry n i j k l first second = elim (cases_order i k) [
     by_place false e = ne_eqb (k * n + j) (k * n + l) (λ f. absurd (eqb-false j l e (omega (arith, f)))) ∙ sym e
 
 -- One entry is changed.
+
+pub entry_written : (row : List ℤ) (at : ℕ) (v amount : ℤ) → at < length row → v ≡ row_entry row at +ℤ amount → IsAddedAt at amount row (set row at v)
+entry_written row at v amount below is k = elim (cases_eq k at) [
+  | inl same ↦
+      ap (λ j. row_entry (set row at v) j) same
+      ∙ (get_or-set_same row at v (pos 0) below
+      ∙ (is
+      ∙ (ap (λ j. row_entry row j +ℤ amount) (sym same) ∙ ap (λ b. cond b (row_entry row k +ℤ amount) (row_entry row k)) (sym (eq-eqb k at same)))))
+  | inr apart ↦ get_or-set_other row at k v (pos 0) apart ∙ ap (λ b. cond b (row_entry row k +ℤ amount) (row_entry row k)) (sym (ne_eqb k at apart))
 ]
 
 moved_by : (a b c : ℤ) (most : ℕ) → unsigned_abs c ≤ most → a ≡ b +ℤ c → unsigned_abs (a -ℤ b) ≤ most
@@ -109,12 +118,36 @@ more_by_nothing most row k = less_nothing (row_entry row k) most
 more_by_more : (u v w : ℤ) (m n : ℕ) → unsigned_abs (v -ℤ u) ≤ m → unsigned_abs (w -ℤ v) ≤ n → unsigned_abs (w -ℤ u) ≤ m + n
 more_by_more u v w m n h g = omega (arith, ints, h, g)
 
+pub more_by_both : (m n : ℕ) (old between new : List ℤ) → IsMoreBy m old between → IsMoreBy n between new → IsMoreBy (m + n) old new
+more_by_both m n old between new h g k = more_by_more (row_entry old k) (row_entry between k) (row_entry new k) m n (h k) (g k)
+
 abs_more : (u v : ℤ) (m n : ℕ) → unsigned_abs u ≤ m → unsigned_abs (v -ℤ u) ≤ n → unsigned_abs v ≤ m + n
 abs_more u v m n h g = omega (arith, ints, h, g)
 
 pub small_more : (m most : ℕ) (old new : List ℤ) (k : ℕ) → most ≤ 256000000 → IsMoreBy most old new → unsigned_abs (row_entry old k) ≤ m * 256000000 → unsigned_abs (row_entry new k) ≤ (m + 1) * 256000000
 small_more m most old new k within more small = let step = abs_more (row_entry old k) (row_entry new k) (m * 256000000) most small (more k) in omega (arith, step, within)
+
+pub small_both : (count m one two : ℕ) (before_old beside_old before_new beside_new : List ℤ) → one ≤ 256000000 → two ≤ 256000000 → IsMoreBy one before_old before_new → IsMoreBy two beside_old beside_new
+    → AreSmall count m before_old beside_old → AreSmall count (m + 1) before_new beside_new
+small_both count m one two before_old beside_old before_new beside_new within within_too before beside small = record {
+  before_small = λ k below. small_more m one before_old before_new k within before (small.before_small k below);
+  beside_small = λ k below. small_more m two beside_old beside_new k within_too beside (small.beside_small k below);
 }
+
+-- small entries have room
+pub small_roomy : (count m : ℕ) (before beside : List ℤ) → m ≤ 4000000 → AreSmall count m before beside → IsRoomy count before × IsRoomy count beside
+small_roomy count m before beside few small =
+    (λ k below. (let most = small.before_small k below in omega (arith, most, few)), λ k below. (let most = small.beside_small k below in omega (arith, most, few)))
+
+-- they still have after one amount more
+pub still_roomy : (count most : ℕ) (old new : List ℤ) → most ≤ 256000000 → ((k : ℕ) → k < count * count → unsigned_abs (row_entry old k) ≤ 1024000000000000) → IsMoreBy most old new → IsRoomy count new
+still_roomy count most old new within small more k below =
+    let step = abs_more (row_entry old k) (row_entry new k) 1024000000000000 most (small k below) (more k) in omega (arith, step, within)
+
+pub small_most : (count m : ℕ) (before beside : List ℤ) → m ≤ 4000000 → AreSmall count m before beside
+    → ((k : ℕ) → k < count * count → unsigned_abs (row_entry before k) ≤ 1024000000000000) × ((k : ℕ) → k < count * count → unsigned_abs (row_entry beside k) ≤ 1024000000000000)
+small_most count m before beside few small =
+    (λ k below. (let most = small.before_small k below in omega (arith, most, few)), λ k below. (let most = small.beside_small k below in omega (arith, most, few)))
 
 pub one_of_two : (s t : Bool) → (s ≡ true → t ≡ true → ⊥) → most_where s + most_where t ≤ 256000000
 one_of_two true true h = absurd (h refl refl)
