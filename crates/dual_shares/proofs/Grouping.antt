@@ -1,5 +1,5 @@
 -- How the terms of a part come to its segments.
-use Rattle.std.proofs.Common.{◌≡◌, ◌≢◌, ℕ, zero, suc, ◌+◌, ◌<◌, ◌≤◌, ◌==◌, ◌||◌, Bool, true, false, cond, List, ◌∷◌, ◌++◌, length, map, take, get_or, refl, sym, ◌∙◌, ap, subst, arith, inl, inr, true≢false, eqb-true, eq-eqb, Option, Some, None}
+use Rattle.std.proofs.Common.{◌≡◌, ◌≢◌, ℕ, zero, suc, ◌+◌, ◌<◌, ◌≤◌, ◌==◌, ◌||◌, Bool, true, false, cond, List, [], ◌∷◌, ◌++◌, length, map, take, get_or, refl, sym, ◌∙◌, ap, subst, arith, inl, inr, true≢false, eqb-true, eq-eqb, Option, Some, None}
 use Rattle.std.specs.Prelude.{Vec, IfSome}
 use Rattle.std.specs.Global.{Global}
 use Rattle.std.specs.List.{HoldsAt}
@@ -8,7 +8,7 @@ use Rattle.std.specs.Ordering.{nat_cmp, ordering_index}
 use Rattle.std.specs.declared.cmp.Ordering.TheVariants.{Less, Equal, Greater}
 use Rattle.std.proofs.lemmas.Bool.{cases_eq, cases_lt, ne_eqb}
 use Rattle.std.proofs.lemmas.Bool.Decides.{nat_tests}
-use Rattle.std.proofs.lemmas.List.{take_more, append-nil, length-map, get_or_default}
+use Rattle.std.proofs.lemmas.List.{take_all, take_more, append-nil, length-map, get_or_default}
 use Rattle.std.proofs.lemmas.List.Elements.{filter-append}
 use Rattle.map_base.specs.declared.ids.SegId.{SegId}
 use Rattle.order_model.specs.declared.term.Term.{Term}
@@ -136,6 +136,11 @@ groups_none terms numbers (s ∷ part) = ap (λ r. [] ∷ r) (groups_none terms 
 pub place_within : (part : List SegId) (s : SegId) (place : Option ℕ) (n : ℕ) → n ≡ length part → IsPlaceInPart part s place → IfSome place (λ k. k < n)
 place_within part s None n e h = tt
 place_within part s (Some k) n e h = let below = h.0 in omega (arith, below, e)
+
+pub other_within : (part : List SegId) (s t : SegId) (place : Option ℕ) (n : ℕ) → n ≡ length part → (t.0 ≡ s.0 → place ≡ None) → (t.0 ≢ s.0 → IsPlaceInPart part t place) → IfSome place (λ k. k < n)
+other_within part s t place n e one two = elim (cases_eq t.0 s.0) [
+  | inl same ↦ subst (λ o. IfSome o (λ k. k < n)) (sym (one same)) tt
+  | inr apart ↦ place_within part t place n e (two apart)
 ]
 
 pub term_added : (t : Term) (n : ℕ) (part : List SegId) (lists between new : List (List ℕ)) (place other_place : Option ℕ) (seg other : SegId) → seg ≡ seg_of t → other ≡ other_of t → IsRisingPart part
@@ -163,6 +168,10 @@ items_of v = v.items
 -- there is a list for each segment
 pub lists_each : (terms : List Term) (numbers : List ℕ) (part : List SegId) (groups : List (Vec ℕ Global)) → tables_of groups ≡ map (numbers_on terms numbers) part → length groups ≡ length part
 lists_each terms numbers part groups is = sym (length-map groups items_of) ∙ (ap length is ∙ length-map part (numbers_on terms numbers))
+
+-- all terms
+pub groups_whole : (terms : List Term) (numbers : List ℕ) (i : ℕ) (part : List SegId) → length numbers ≤ i → map (numbers_on terms (take i numbers)) part ≡ map (numbers_on terms numbers) part
+groups_whole terms numbers i part over = ap (λ l. map (numbers_on terms l) part) (take_all i numbers over)
 
 -- A search in a part.
 
