@@ -1,5 +1,5 @@
 -- Edits of what commands load.
-use Rattle.std.proofs.Common.{ℕ, List, Result, Err, Vec, sym, ap, subst}
+use Rattle.std.proofs.Common.{ℕ, List, Result, Err, Vec, ap}
 use Rattle.std.specs.declared.alloc.Global.{Global}
 use Rattle.map_edits.specs.declared.edit.Edit.{Edit}
 use Rattle.map_edits.specs.declared.fault.EditsFault.{EditsFault}
@@ -9,7 +9,6 @@ use Rattle.run_status.specs.declared.refusal.Refusal.{Refusal}
 use Rattle.run_status.specs.declared.refusal.Refusal.TheVariants as refused
 use Rattle.run_status.specs.Following.{Gives}
 use Rattle.run_status.specs.Refusals.{of_edits}
-use Rattle.run_status.proofs.FollowLemmas.{IsRefusedAs, refused_as}
 use Rattle.command_inputs.specs.declared.loaded.Loaded.{Loaded}
 use Rattle.command_inputs.specs.Loading.{changed_by, edits_given}
 
@@ -31,17 +30,7 @@ unchanged loaded (refused.BadGraph bad) defined gives = ap (changed_by loaded) g
 unchanged loaded (refused.BadEdit line) defined gives = ap (changed_by loaded) gives
 unchanged loaded (refused.Missing input) defined gives = ap (changed_by loaded) gives
 
-pub edits_refused : (loaded : Loaded) (why : Refusal) (defined : Result (List Edit) Refusal) (result : Result Loaded Refusal) → IsRefusedAs why result → Gives edits_in_vec (Err why) defined
-    → Gives (λ (l : Loaded). l) result (changed_by loaded defined)
-edits_refused loaded why defined result is gives =
-    subst (λ (r : Result Loaded Refusal). Gives (λ (l : Loaded). l) r (changed_by loaded defined)) (sym (refused_as why result is)) (unchanged loaded why defined gives)
-
 -- a file of edits that is refused
 fault_given : (why : EditsFault) (outcome : Result (List Edit) ℕ) → ReadsEdits edits_in_vec (Err why) outcome → Gives edits_in_vec (Err (of_edits why)) (edits_given outcome)
 fault_given (fault.BadEdit line) outcome reads = ap edits_given reads
 fault_given fault.NoMemory outcome reads = tt
-
-pub file_refused : (why : EditsFault) (outcome : Result (List Edit) ℕ) (result : Result (Vec Edit Global) Refusal) → IsRefusedAs (of_edits why) result → ReadsEdits edits_in_vec (Err why) outcome
-    → Gives edits_in_vec result (edits_given outcome)
-file_refused why outcome result is reads =
-    subst (λ (r : Result (Vec Edit Global) Refusal). Gives edits_in_vec r (edits_given outcome)) (sym (refused_as (of_edits why) result is)) (fault_given why outcome reads)

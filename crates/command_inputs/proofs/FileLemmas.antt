@@ -1,5 +1,5 @@
 -- A file that is read for a command.
-use Rattle.std.proofs.Common.{◌≡◌, ◌≤◌, ℕ, Bool, true, false, List, [], ◌∷◌, length, Option, None, Some, option_map, Result, Ok, Err, IfOk, IfSome, Vec, if◌then◌else◌, nat_le, refl, sym, ap, ◌∙◌, subst}
+use Rattle.std.proofs.Common.{◌≡◌, ◌≤◌, ℕ, Bool, true, false, List, ◌∷◌, length, Option, None, Some, option_map, Result, Ok, Err, IfOk, IfSome, Vec, if◌then◌else◌, nat_le, refl, sym, ap, ◌∙◌, subst}
 use Rattle.std.specs.declared.alloc.Global.{Global}
 use Rattle.std.proofs.lemmas.Bool.{le-leb}
 use Rattle.map_base.specs.declared.limit.Limit.{Limit}
@@ -120,18 +120,5 @@ read_err_at told paths role old now path most fault same are was cause =
     let here = subst (λ (m : ℕ). WasRead told (paths role) m (Err fault)) are (subst (λ (p : List ℕ). WasRead told p most (Err fault)) same was) in
     read_err paths role old now told fault here (subst (λ (m : ℕ). ReadCause m old now fault) are cause)
 
--- what was read lies at the path
-pub lies_ok : (told : Told) (path wanted : List ℕ) (most : ℕ) (bytes : Vec ℕ Global) → path ≡ wanted → WasRead told path most (Ok bytes) → IfSome told (λ all. file_at all wanted ≡ Some bytes.items)
-lies_ok None path wanted most bytes same was = tt
-lies_ok (Some all) path wanted most bytes same was =
-    subst (λ (p : List ℕ). file_at all p ≡ Some bytes.items) same (whole_is (file_at all path) most bytes.items was).0
-
 abbrev Lies : Told → List ℕ → Result (Option (Vec ℕ Global)) Refusal → Type 0
 Lies told wanted result = IfOk result (λ file. IfSome told (λ all. file_at all wanted ≡ bytes_in file))
-
-pub lies_err : (told : Told) (role : Input) (path wanted : List ℕ) (most : ℕ) (fault : DoorFault) → path ≡ wanted → WasRead told path most (Err fault) → Lies told wanted (not_read role fault)
-lies_err None role path wanted most door.Absent same was = tt
-lies_err (Some all) role path wanted most door.Absent same was = subst (λ (p : List ℕ). file_at all p ≡ None) same (absent_is (file_at all path) most was)
-lies_err told role path wanted most door.ReadFault same was = tt
-lies_err told role path wanted most (door.TooLong limit) same was = tt
-lies_err told role path wanted most door.NoMemory same was = tt

@@ -1,5 +1,5 @@
 -- What `session` comes to, how it is written, what it promises, and how many steps it takes.
-use Rattle.std.proofs.Common.{◌≡◌, ◌∙◌, ℕ, suc, inr, List, [], ◌∷◌, take, Option, None, Some, Result, Ok, Err, refl, sym, ap, subst, arith}
+use Rattle.std.proofs.Common.{◌≡◌, ◌∙◌, ℕ, suc, List, ◌∷◌, take, Option, None, Some, Result, Ok, Err, refl, sym, ap, subst, arith}
 use Rattle.std.proofs.lemmas.List.{append-nil}
 use Rattle.std.specs.Option.{option_map}
 use Rattle.std.specs.Prelude.{Vec}
@@ -20,14 +20,14 @@ use Rattle.run_status.specs.declared.input.Input.TheVariants as input
 use Rattle.run_status.specs.declared.refusal.Refusal.{Refusal}
 use Rattle.run_status.specs.declared.refusal.Refusal.TheVariants as refused
 use Rattle.run_status.specs.Following.{Follows}
-use Rattle.run_status.proofs.FollowLemmas.{IsRefusedAs, Told, follows_refused, follows_then, follows_value}
+use Rattle.run_status.proofs.FollowLemmas.{Told, follows_refused, follows_then, follows_value}
 use Rattle.command_inputs.specs.declared.loaded.Loaded.{Loaded}
 use Rattle.command_inputs.specs.Inputs.{InputPaths, input_at}
 use Rattle.command_inputs.specs.Loading.{file_work, load_work}
 use Rattle.edit_session.specs.declared.stop.ScriptStop.{ScriptStop}
 use Rattle.edit_session.specs.declared.stop.ScriptStop.TheVariants as script_stop
 use Rattle.edit_session.specs.SessionWorks.{Played, draw_outputs, played_by, script_in, script_work}
-use Rattle.edit_session.specs.Promises.{IsScript, KeepDraws, SearchDraws, TakesSessionSteps}
+use Rattle.edit_session.specs.Promises.{IsScript, KeepDraws}
 use Rattle.edit_session.specs.Playing.{IsPlayed, Plays, stopped_by}
 use Rattle.edit_session.proofs.LineLemmas.{refused_due}
 
@@ -45,16 +45,6 @@ abbrev pub bytes_of_file : Option (Vec ℕ Global) → Option (List ℕ)
 bytes_of_file file = option_map bytes_in file
 
 module _ (told : Told) (paths : Input → List ℕ) (rose : Type 0) (result : Result (Vec ℕ Global) Refusal) where
-  -- the script can't be read
-  pub unread_script : (why : Refusal) → IsRefusedAs why result → Follows told paths rose bytes_of_file (file_work input.Script) (Err why) → Follows told paths rose bytes_in script_work result
-  unread_script why is first = follows_refused told paths rose bytes_of_file bytes_in (file_work input.Script) (λ file. ends (script_in file)) why result is first
-
-  -- it is there
-  pub found_script : (script : Vec ℕ Global) → result ≡ Ok script → Follows told paths rose bytes_of_file (file_work input.Script) (Ok (Some script)) → Follows told paths rose bytes_in script_work result
-  found_script script is first =
-      subst (λ (r : Result (Vec ℕ Global) Refusal). Follows told paths rose bytes_in script_work r) (sym is)
-      (follows_value told paths rose bytes_of_file bytes_in (file_work input.Script) (λ f. script_in f) (Some script) (Ok script) first refl)
-
   -- it is not there
   pub missing_script : result ≡ Err (refused.BadEdit 0) → Follows told paths rose bytes_of_file (file_work input.Script) (Ok None) → Follows told paths rose bytes_in script_work result
   missing_script is first =
@@ -134,8 +124,3 @@ module _ (told : Told) (inputs : InputPaths) (out : List ℕ) where
       script_left stop.NoMemory result is cause does =
           subst (λ (r : Result (Option ℕ) ScriptStop). Plays told inputs out rose sinks_rose old new r) (sym is)
           (played, comes, (does.0, does.2))
-
--- the search of the draws
-pub session_steps : (told : Told) (inputs : InputPaths) (rose : Type 0) (loaded : Loaded) (script : List ℕ) (before now : ℕ) → Follows told (input_at inputs) rose same_loaded (load_work inputs.chosen) (Ok loaded)
-    → IsScript told inputs script → SearchDraws loaded script before now → TakesSessionSteps told inputs before now
-session_steps told inputs rose loaded script before now loads lies few = inr (loaded, script, loads.1, lies, few)

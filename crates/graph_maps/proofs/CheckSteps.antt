@@ -1,5 +1,5 @@
 -- What comes of a check after each of its steps.
-use Rattle.std.proofs.Common.{◌≡◌, ◌∙◌, ap, sym, subst, refl, arith, ℕ, ◌+◌, ◌==◌, eq-eqb, eqb-true, Bool, true, false, cond, List, [], ◌∷◌, length, Option, Some, None, option_map, Result, Ok, Err}
+use Rattle.std.proofs.Common.{◌≡◌, ◌∙◌, ap, sym, subst, refl, ℕ, ◌+◌, ◌==◌, eq-eqb, eqb-true, Bool, true, cond, List, ◌∷◌, length, Option, Some, None, option_map, Result, Ok, Err}
 use Rattle.map_base.specs.declared.ids.LineId.{LineId}
 use Rattle.map_base.specs.Settings.{Choices}
 use Rattle.graph_core.specs.declared.parts.GraphParts.{GraphParts}
@@ -7,13 +7,11 @@ use Rattle.decimal_text.specs.declared.fault.BadText.{BadText}
 use Rattle.decimal_text.specs.declared.fault.BadText.TheVariants as bad
 use Rattle.decimal_text.specs.Readers.{EndsAs}
 use Rattle.order_model.specs.declared.problem.ProblemParts.{ProblemParts}
-use Rattle.order_model.specs.Costs.{cost_of, AreBest, AreOrders}
+use Rattle.order_model.specs.Costs.{cost_of, AreOrders}
 use Rattle.map_method.specs.declared.claim.Claim.{Claim}
 use Rattle.order_check.specs.declared.refusal.ProofItem.{ProofItem}
 use Rattle.order_check.specs.declared.refusal.ProofItem.TheVariants as refused
-use Rattle.order_check.specs.declared.refusal.ProofStop.{ProofStop}
 use Rattle.order_check.specs.declared.refusal.ProofStop.TheVariants as stopped
-use Rattle.order_check.specs.Verdict.{first_item, targets, total_refusal, bound_refusal, verdict, IsCause}
 use Rattle.order_proof.specs.Plain.{PlainProof}
 use Rattle.order_check.specs.LowerBounds.{IsLowerBound}
 use Rattle.cert_file.specs.declared.certificate.Certificate.{Certificate}
@@ -22,7 +20,7 @@ use Rattle.cert_file.specs.Reading.{certificate_end}
 use Rattle.map_faults.specs.declared.fault.CheckItem.{CheckItem}
 use Rattle.map_faults.specs.declared.fault.CheckItem.TheVariants as item
 use Rattle.map_faults.specs.declared.fault.CheckFault.{CheckFault}
-use Rattle.map_faults.specs.Faults.{proof_stop, text_stop}
+use Rattle.map_faults.specs.Faults.{text_stop}
 use Rattle.graph_maps.specs.Problems.{problem_within}
 use Rattle.graph_maps.specs.Promises.{AreBounded}
 use Rattle.graph_maps.specs.Readings.{certificate_in}
@@ -77,37 +75,3 @@ module _ {A : Type 0} (claim : Claim) (p : ProblemParts) (orders : List (List Li
   by_refusal =
       ap (λ (b : Bool). unless_refused (cond b None (Some item.Cost)) (unless_refused (proof_item claim p orders proof) next))
       (eq-eqb cost (cost_of p.terms orders) (sym costs)) ∙ ap (λ (o : Option CheckItem). unless_refused o next) is
-
-  -- nothing is refused
-  pub proof_held : refusal ≡ None → unless_costlier claim p orders cost proof next ≡ next
-  proof_held none = by_refusal ∙ ap (λ (o : Option ProofItem). unless_refused (option_map item.Proof o) next) none
-
-  -- an item of the proof is refused
-  pub proof_stopped : (stop : ProofStop) → IsCause refusal stop
-      → HasCause (unless_costlier claim p orders cost proof next) (proof_stop stop)
-  proof_stopped (stopped.Refuted i) h =
-      by_refusal ∙ ap (λ (o : Option ProofItem). unless_refused (option_map item.Proof o) next) h
-  proof_stopped stopped.NoMemory h = tt
-
--- the targets sum to the cost of orders where no item of the proof and no total is refused
-pub total_there : (p : ProblemParts) (orders : List (List LineId)) (proof : PlainProof) → verdict p orders proof ≡ None
-    → targets proof.parts ≡ cost_of p.terms orders
-total_there p orders proof h = by_refusal (bound_refusal p proof) h
-  where
-    total : ℕ
-    total = cost_of p.terms orders
-
-    by_test : (b : Bool) → (targets proof.parts == total) ≡ b → cond b None (Some refused.Total) ≡ None
-        → targets proof.parts ≡ total
-    by_test true same e = eqb-true (targets proof.parts) total same
-    by_test false same e = absurd cc
-
-    by_refusal : (o : Option ProofItem) → first_item o (total_refusal proof.parts total) ≡ None
-        → targets proof.parts ≡ total
-    by_refusal None e = by_test (targets proof.parts == total) refl e
-    by_refusal (Some i) e = absurd cc
-
--- orders that cost least are a bound
-pub best_bounds : (p : ProblemParts) (orders : List (List LineId)) (cost : ℕ) → cost_of p.terms orders ≡ cost
-    → AreBest p.segs p.terms orders → IsLowerBound p.segs p.terms cost
-best_bounds p orders cost costs best others are = omega (arith, costs, best others are)

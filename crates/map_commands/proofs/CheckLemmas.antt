@@ -1,12 +1,11 @@
 -- The steps of `check`, one after another.
-use Rattle.std.proofs.Common.{◌≡◌, ℕ, zero, suc, ◌+◌, ◌==◌, Bool, true, false, List, [], ◌∷◌, Option, None, Some, Result, Ok, Err, IfOk, IfSome, if◌then◌else◌, eqb-true, refl, sym, ap, ◌∙◌, subst}
+use Rattle.std.proofs.Common.{◌≡◌, ℕ, ◌+◌, ◌==◌, Bool, true, false, List, ◌∷◌, Option, None, Some, Result, Ok, Err, IfOk, IfSome, if◌then◌else◌, eqb-true, refl, sym, ap, ◌∙◌, subst}
 use Rattle.std.specs.Option.{option_map}
 use Rattle.graph_core.specs.declared.parts.GraphParts.{GraphParts}
 use Rattle.line_graph.specs.Outcome.{graph_outcome}
 use Rattle.files_door.specs.Files.{file_at}
 use Rattle.map_faults.specs.declared.fault.CheckFault.{CheckFault}
 use Rattle.map_faults.specs.declared.fault.CheckFault.TheVariants as refuted
-use Rattle.map_faults.specs.declared.fault.CheckItem.{CheckItem}
 use Rattle.map_faults.specs.declared.fault.CheckItem.TheVariants as found
 use Rattle.graph_maps.specs.declared.checked.Checked.{Checked}
 use Rattle.graph_maps.specs.declared.checked.Proved.{Proved}
@@ -22,7 +21,7 @@ use Rattle.run_status.specs.declared.refusal.Refusal.{Refusal}
 use Rattle.run_status.specs.declared.refusal.Refusal.TheVariants as refused
 use Rattle.command_paths.specs.Paths.{Chosen}
 use Rattle.command_inputs.specs.Inputs.{InputPaths, input_at}
-use Rattle.map_commands.specs.MapWorks.{proved_line, built, certificate_work, picture_work, check_work, picture_checked, checked_as}
+use Rattle.map_commands.specs.MapWorks.{proved_line, built, certificate_work, picture_work, check_work, checked_as}
 use Rattle.run_status.specs.Outputs.{said}
 use Rattle.run_status.specs.Refusals.{of_check}
 use Rattle.command_inputs.specs.Loading.{load_work}
@@ -100,15 +99,6 @@ same_text (x ∷ picture) (y ∷ svg) is = by_test (x == y) refl (first_differen
 -- what comes of a comparison
 compared : PlainChecked → Option ℕ → Result Proved Refusal
 compared checked different = checked_as (unless_refused (option_map found.Picture different) (Ok checked.proved))
-
-pub picture_same : (checked : PlainChecked) (svg : List ℕ) → first_difference checked.svg svg ≡ None → picture_checked checked (Some svg) ≡ Ok checked.proved
-unfolding compared
-picture_same checked svg is = ap (compared checked) is
-
-pub picture_other : (checked : PlainChecked) (svg : List ℕ) (at : ℕ) → first_difference checked.svg svg ≡ Some at
-    → picture_checked checked (Some svg) ≡ Err (refused.Refuted (item.Found (found.Picture at)))
-unfolding compared
-picture_other checked svg at is = ap (compared checked) is
 
 -- the yes of a map that is accepted
 pub says_yes : (told : Told) (inputs : InputPaths) (rose : Type 0) (loaded : Loaded) (checked : Checked) (result : Result (List Output) Refusal)
