@@ -1,10 +1,11 @@
 #!/usr/bin/env python3
-"""Compares `make`, `map`, `labels`, `geo`, `poster`, `improve` and `check` with another program on small random feeds under random settings.
+"""Compares `make`, `map`, `labels`, `geo`, `poster`, `improve`, `check`, `session` and `import` with another program on
+small random feeds under random settings.
 
     bench/agree_settings.py [--feeds N] [--seed S] [--theirs KEY=VALUE ..] [--work FOLDER] [--ours PROGRAM] PROGRAM
 
 Makes N feeds as bench/agree.py does, and for each a settings file with some of the keys, now and then with a value
-that no key takes. The other program's file also has the lines given by --theirs. `labels`, `geo` and `poster` also get a certificate of which one word is changed. Runs the commands of both
+that no key takes. The other program's file also has the lines given by --theirs, but for keys that it has. `labels`, `geo` and `poster` also get a certificate of which one word is changed. Runs the commands of both
 programs on each and compares status, standard output and the bytes of the files (of words that are not read, status
 2, the status alone: each program has its own help); `check` without any settings file must say yes to each map under
 the default cell, near distance and weights, where best orders are claimed. A feed on which something differs is kept, and named. Ends with 1 where
@@ -47,6 +48,11 @@ def settings(chance):
     return chosen
 
 
+def further_lines(given, chosen):
+    """The lines of the other program's file for keys that are not chosen."""
+    return [line.replace("=", " = ", 1) + "\n" for line in given if line.split("=")[0] not in chosen]
+
+
 def changed(certificate, chance):
     """The certificate with one of its words in place of another."""
     words = certificate.split(b" ")
@@ -84,13 +90,23 @@ def main():
                 print(f"{folder}: {' '.join(words)}: status {ours[0]} and {theirs[0]}: {ours[1][:60]!r} and {theirs[1][:60]!r}")
             return theirs
 
-        for command in ["make", "map", "improve"]:
+        graph = compare(["export", "feed", "graph"], ["graph"])[2]
+        for name, text in {**graph, "script": b"draw\n"}.items():
+            with open(os.path.join(folder, name), "wb") as out:
+                out.write(text)
+        for command in ["make", "map", "improve", "session", "import"]:
             chosen = settings(chance)
             lines = [f"{key} = {value}\n" for key, value in chosen.items()]
-            for name, further in [("settings.toml", []), ("theirs.toml", [line.replace("=", " = ", 1) + "\n" for line in given.theirs])]:
+            for name, further in [("settings.toml", []), ("theirs.toml", further_lines(given.theirs, chosen))]:
                 with open(os.path.join(folder, name), "w") as out:
                     out.writelines(lines + further)
             words = [command, "feed", "svg", "cert"]
+            if command == "session":
+                compare([command, "feed", "script", "draws", "--settings", "settings.toml"], ["draws"])
+                continue
+            if command == "import":
+                compare([command, "graph", "svg", "cert", "--settings", "settings.toml"], ["svg", "cert"])
+                continue
             if command == "improve":
                 words.append(chance.choice(["0", "1", "3", "10", "1000", "10000", "10001", "x"]))
             status, _, files = compare(words + ["--settings", "settings.toml"], ["svg", "cert"])
