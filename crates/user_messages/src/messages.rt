@@ -5,7 +5,7 @@ use crate::bad_graph::bad_graph;
 use crate::bad_row::{BadRow, bad_row};
 use crate::bad_settings::bad_settings;
 use crate::done::done;
-use crate::files::{missing, unread, unwritten};
+use crate::files::{unread, unwritten};
 use crate::limits::{above, no_memory};
 use crate::no_picture::no_picture;
 use crate::no_route::no_route;
