@@ -281,7 +281,8 @@ def try_contrast(page):
 def try_bends(page):
     """Lines of a poster keep their bends, and are pointed at along these."""
     page.open("bends", page_maps.bent())
-    ways = page.script("return [...document.querySelectorAll('#sheet .routes path')].map(one => one.getAttribute('d'));")
+    ways = page.script("""
+        return [...document.querySelectorAll('#sheet .routes path')].map(one => one.getAttribute('d'));""")
     hold("bends: two lines have one each", [way.count("Q") for way in ways] == [1, 1])
     page.shot("bends")
     left, top, scale = page.script("""
@@ -466,8 +467,8 @@ def main(words):
     page.open("dark", last)
     page.shot("dark")
     page.surroundings("light")
-    for trial in [try_search, try_lists, try_alike, try_calls, try_free_names, try_units, try_contrast, try_bends, try_links,
-                  try_title, try_save, try_hostile, try_names, try_cities]:
+    for trial in [try_search, try_lists, try_alike, try_calls, try_free_names, try_units, try_contrast, try_bends,
+                  try_links, try_title, try_save, try_hostile, try_names, try_cities]:
         trial(page)
     for path in [path for path in maps if path == maps[-1] or path.stem.endswith("-ground")]:
         try_phone(page, path.stem, path.read_bytes())
