@@ -11,4 +11,5 @@ page_bytes svg = HEAD.now ++ svg ++ TAIL.now
 -- a picture of octimap, be it a map, one with its names at free places, a geographic one or a poster: its first bytes
 -- are those with which each of these begins
 unfoldable pub is_picture : List ℕ → Bool
-is_picture bytes = starts_with nat_eq bytes (codes "<svg xmlns=\"http://www.w3.org/2000/svg\" version=\"1.1\" viewBox=\"")
+is_picture bytes =
+    starts_with nat_eq bytes (codes "<svg xmlns=\"http://www.w3.org/2000/svg\" version=\"1.1\" viewBox=\"")
