@@ -205,6 +205,8 @@ def try_phone(page, name, svg):
     tell(f"names are seen ({page.names_shown()} at first)", page.names_painted() and page.names_apart())
     page.sized(800, 390, True)
     tell("turned, it is seen whole again", comes(lambda: width() > 390 and page.seen_whole()))
+    frame, buttons = page.boxes("#view", "#zoom")
+    tell("turned, the buttons lie beside it", buttons["left"] >= frame["right"] and buttons["right"] <= 800)
     page.shot(f"phone-{name}-turned")
     page.sized(390, 800, True)
     tell("turned back, too", comes(lambda: width() == 390 and page.seen_whole()))
@@ -261,17 +263,36 @@ def try_contrast(page):
             const paths = all('#sheet path[color]').filter(one => style(one).display !== 'none');
             return [
                 style(document.body).backgroundColor, style(document.getElementById('panel')).backgroundColor,
-                paths.map(one => [one.getAttribute('d'), style(one).stroke]),
+                paths.map(one => [one.getAttribute('d'), style(one).stroke, parseFloat(style(one).strokeWidth)]),
                 all('#lines i').map(one => [style(one).backgroundColor, style(one).borderTopColor]),
             ];""")
-        lines = {}
-        for way, colour in paths:
+        lines, widths = {}, {}
+        for way, colour, width in paths:
             lines[way] = max(lines.get(way, 0), contrast(colour, paper))
+            widths[way] = max(widths.get(way, 0), width)
+        hold(f"contrast: with edges lines are as wide as others on {scheme} paper", len(set(widths.values())) == 1)
         least = min(lines.values())
         hold(f"contrast: each line on {scheme} paper, the least at {least:.1f}", len(lines) == 12 and least >= 3)
         least = min(max(contrast(colour, panel) for colour in colours) for colours in swatches)
         hold(f"contrast: the legend in {scheme} surroundings, the least at {least:.1f}", least >= 3)
     page.surroundings("light")
+
+
+def try_bends(page):
+    """Lines of a poster keep their bends, and are pointed at along these."""
+    page.open("bends", page_maps.bent())
+    ways = page.script("""
+        return [...document.querySelectorAll('#sheet .routes path')].map(one => one.getAttribute('d'));""")
+    hold("bends: two lines have one each", [way.count("Q") for way in ways] == [1, 1])
+    page.shot("bends")
+    left, top, scale = page.script("""
+        const box = document.querySelector('#sheet').getBoundingClientRect();
+        return [box.left, box.top, box.width / document.querySelector('#sheet').viewBox.baseVal.width];""")
+    at = lambda x, y: (left + (x + 200) * scale, top + (y + 200) * scale)  # in the page's units, 12/7 of the poster's
+    page.hover(*at(1800, 257))
+    hold("bends: pointing at the middle of a bend lifts its line", comes(lambda: page.said("tip").startswith("A")))
+    page.hover(*at(2057, 0))
+    hold("bends: where it would lie without one it does not", comes(lambda: page.said("tip") == ""))
 
 
 def try_links(page):
@@ -446,8 +467,8 @@ def main(words):
     page.open("dark", last)
     page.shot("dark")
     page.surroundings("light")
-    for trial in [try_search, try_lists, try_alike, try_calls, try_free_names, try_units, try_contrast, try_links,
-                  try_title, try_save, try_hostile, try_names, try_cities]:
+    for trial in [try_search, try_lists, try_alike, try_calls, try_free_names, try_units, try_contrast, try_bends,
+                  try_links, try_title, try_save, try_hostile, try_names, try_cities]:
         trial(page)
     for path in [path for path in maps if path == maps[-1] or path.stem.endswith("-ground")]:
         try_phone(page, path.stem, path.read_bytes())

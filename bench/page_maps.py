@@ -99,6 +99,25 @@ class Network:
         return (HEAD.format(self.box(pitch)) + "\n".join([*rows, "</g>", "</svg>", ""])).encode()
 
 
+def bent():
+    """A poster of two lines with a wide bend each, of which one is pale."""
+    bend = "M 0 {0} L 600 {0} Q 1200 {0} 1200 {1} L 1200 {2}"
+    rows = ['<g id="lines" fill="none" stroke-width="7">']
+    for line, (name, colour, y) in enumerate([("A", "e6194b", 0), ("B", "ffe600", 1600)]):
+        there = bend.format(y, y + 600, y + 1200)
+        if line == 1:
+            rows.append(f'<path class="s{line} l{line}" d="{there}" stroke="#444444" stroke-width="9"/>')
+        rows.append(f'<path class="s{line} l{line}" d="{there}" stroke="#{colour}"><title>{name}</title></path>')
+    rows += ['</g>', '<g id="stations">']
+    for line, y in enumerate([0, 1600]):
+        for place, (x, down) in enumerate([(0, 0), (1200, 1200)]):
+            marker = f'd="M {x} {y + down} L {x} {y + down}" stroke'
+            rows += [f'<g class="n{2 * line + place} l{line}"><title>{"AB"[line]}{place}</title>',
+                     f'<path {marker}="#000000" stroke-width="15"/>', f'<path {marker}="#ffffff" stroke-width="9"/>',
+                     '</g>']
+    return (HEAD.format("0 0 1200 2800") + "\n".join([*rows, "</g>", "</svg>", ""])).encode()
+
+
 def way(places):
     return "M " + " L ".join(f"{x} {y}" for x, y in places)
 

@@ -35,6 +35,6 @@ pub fn map_text(alloc: Global, picture: &str) -> Result<MapText, NoMemory> {
 fn line_of(element: &str) -> Option<u32> {
     let behind = element.strip_prefix("<path class=\"s")?;
     let (_, behind) = behind.split_once(" l")?;
-    let (line, _) = behind.split_once("\"")?;
+    let (line, _) = behind.split_once('"')?;
     line.parse::<u32>().ok()
 }

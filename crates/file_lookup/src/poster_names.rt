@@ -68,7 +68,7 @@ impl Names {
         let Some(behind) = element.strip_prefix("<text ") else {
             return Ok(());
         };
-        let Some((attributes, inside)) = behind.split_once(">") else {
+        let Some((attributes, inside)) = behind.split_once('>') else {
             return Ok(());
         };
         if attributes.contains(" stroke=\"#ffffff\"") {
@@ -87,11 +87,11 @@ impl Names {
 /// there is one. The names of lines that stand behind it have a colour of their own.
 fn name_inside(alloc: Global, inside: &str) -> Result<String, NoMemory> {
     let mut name = String::new(alloc);
-    for part in inside.split("<") {
+    for part in inside.split('<') {
         if name.is_empty() {
             push_squeezed(&mut name, part)?;
         } else if part.starts_with("tspan x=") {
-            let (_, second) = part.split_once(">").unwrap_or((part, ""));
+            let (_, second) = part.split_once('>').unwrap_or((part, ""));
             push_squeezed(&mut name, second)?;
         }
     }
@@ -100,7 +100,7 @@ fn name_inside(alloc: Global, inside: &str) -> Result<String, NoMemory> {
 
 /// Puts a text behind another, without its blanks.
 fn push_squeezed(squeezed: &mut String, text: &str) -> Result<(), NoMemory> {
-    for word in text.split(" ") {
+    for word in text.split(' ') {
         squeezed.push_str(word)?;
     }
     Ok(())
@@ -141,7 +141,7 @@ fn is_printed(alloc: Global, title: &str, printed: &[String]) -> Result<bool, No
     if has(alloc, title, printed)? {
         return Ok(true);
     }
-    match title.split_once(" ") {
+    match title.split_once(' ') {
         Some((_, rest)) => has(alloc, rest, printed),
         None => Ok(false),
     }

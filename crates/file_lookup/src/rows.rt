@@ -179,7 +179,7 @@ fn holds(field: &[u8], text: &[u8]) -> bool {
     };
     for line in lines.lines() {
         if line
-            .split(",")
+            .split(',')
             .any(|cell| trim_spaces(cell.as_bytes()) == text)
         {
             return true;

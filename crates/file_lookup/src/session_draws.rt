@@ -75,14 +75,14 @@ impl Draws {
 /// The number of a draw, and what its line tells behind that.
 fn draw_of(line: &[u8]) -> Option<(&str, &str)> {
     match str::from_utf8(line) {
-        Ok(text) => text.strip_prefix("draw ")?.split_once(" "),
+        Ok(text) => text.strip_prefix("draw ")?.split_once(' '),
         Err(_) => None,
     }
 }
 
 /// How many bytes a draw has behind its line: those of its map and those of its certificate.
 fn length_of(told: &str) -> Option<usize> {
-    let (map, certificate) = told.split_once(" ")?;
+    let (map, certificate) = told.split_once(' ')?;
     let map = map.parse::<usize>().ok()?;
     let certificate = certificate.parse::<usize>().ok()?;
     map.checked_add(certificate)

@@ -5,4 +5,4 @@ mod head;
 mod page;
 mod tail;
 
-pub use page::page_of;
+pub use page::{is_picture, page_of};

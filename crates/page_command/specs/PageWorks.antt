@@ -1,8 +1,7 @@
 -- What `page` does.
-use Rattle.std.specs.Prelude.{ℕ, Bool, List, [], ◌∷◌, codes, nat_eq, Option, None, Some, Result, Ok, Err, if◌then◌else◌}
-use Rattle.std.specs.List.{starts_with}
+use Rattle.std.specs.Prelude.{ℕ, List, [], ◌∷◌, Option, None, Some, Result, Ok, Err, if◌then◌else◌}
 use Rattle.files_door.specs.declared.target.Target.TheVariants.{Path}
-use Rattle.map_page.specs.Pages.{page_bytes}
+use Rattle.map_page.specs.Pages.{is_picture, page_bytes}
 use Rattle.command_run.specs.declared.output.Output.{Output}
 use Rattle.command_run.specs.Work.{Work, ends, ◌>>=◌}
 use Rattle.run_status.specs.declared.input.Input.{Input}
@@ -10,11 +9,6 @@ use Rattle.run_status.specs.declared.input.Input.TheVariants as input
 use Rattle.run_status.specs.declared.refusal.Refusal.{Refusal}
 use Rattle.run_status.specs.declared.refusal.Refusal.TheVariants as refused
 use Rattle.command_inputs.specs.Loading.{file_work}
-
--- a picture of octimap, be it a map, one with its names at free places, a geographic one or a poster: its first bytes
--- are those with which each of these begins
-unfoldable pub is_picture : List ℕ → Bool
-is_picture bytes = starts_with nat_eq bytes (codes "<svg xmlns=\"http://www.w3.org/2000/svg\" version=\"1.1\" viewBox=\"")
 
 -- the page of a map goes to its file
 abbrev pub page_outputs : List ℕ → List ℕ → List Output

@@ -4,13 +4,13 @@ ghost use Rattle.std.specs.Prelude.{◌≡◌, Some, option_map, IfOk};
 ghost use Rattle.files_door.specs.Fault.{Rose};
 ghost use Rattle.run_status.specs.Following.{Follows, Gives};
 ghost use Rattle.command_inputs.specs.Inputs.{input_at, inputs_by};
-ghost use Rattle.page_command.specs.PageWorks.{is_picture, page_at, page_outputs, page_work};
+ghost use Rattle.page_command.specs.PageWorks.{page_at, page_outputs, page_work};
 
 use command_inputs::{Inputs, read_file};
 use command_run::Output;
 use files_door::{Files, Target};
 use map_base::{NoMemory, Sequence, Text};
-use map_page::page_of;
+use map_page::{is_picture, page_of};
 use run_status::{Input, Refusal};
 use std::alloc::Global;
 
@@ -28,14 +28,6 @@ pub fn show_map<F: Files>(
 {
     let bytes = read_file(alloc, inputs, Input::Picture, files)?;
     page_at(alloc, page, bytes)
-}
-
-/// Whether a file is a picture of octimap, by its first bytes.
-#[tactic(auto, unfolding(crate::specs::PageWorks::is_picture))]
-fn is_picture(bytes: &[u8]) -> bool
-    ensures { result ≡ is_picture bytes.now }
-{
-    bytes.starts_with(b"<svg xmlns=\"http://www.w3.org/2000/svg\" version=\"1.1\" viewBox=\"")
 }
 
 /// The page of a map, if that is there and a picture.

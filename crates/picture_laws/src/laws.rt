@@ -3,6 +3,7 @@
 ghost use Rattle.std.specs.Prelude.{◌≡◌, ℕ, ◌<◌, ◌==◌, true, not, List, length, map, filter, Option, Some, slice_get, count_by, Contains};
 ghost use Rattle.std.specs.List.{AllByRecursion, list_all};
 ghost use Rattle.map_base.specs.declared.ids.LineId.{LineId};
+ghost use Rattle.map_page.specs.Pages.{is_picture};
 ghost use Rattle.graph_core.specs.declared.parts.GraphParts.{GraphParts};
 ghost use Rattle.line_offsets.specs.declared.corner.Corner.{Corner};
 ghost use Rattle.svg_writer.specs.declared.bounds.Bounds.{Bounds};
@@ -57,4 +58,11 @@ pub fn names_write_no_markup()
 pub fn text_tells_elements()
     ensures { (style : Style) (es fs : List Element) → AllByRecursion (IsWritable style) es
         → AllByRecursion (IsWritable style) fs → texts style es ≡ texts style fs → map as_written es ≡ map as_written fs }
+{}
+
+/// Each picture begins as one of which a page is made, whatever its style, its courses and its names are.
+pub fn pages_are_made_of_pictures()
+    ensures { (style : Style) (names : Names) (g : GraphParts) (courses : Courses) (orders : List (List LineId))
+        (frame : Bounds) (labels : List Element)
+        → is_picture (texts style (elements_with style names g courses orders frame labels)) ≡ true }
 {}

@@ -6,5 +6,5 @@ mod laws;
 
 pub use laws::{
     each_line_of_a_segment_has_its_path, each_station_has_its_circle_and_its_name,
-    names_write_no_markup, text_tells_elements,
+    names_write_no_markup, pages_are_made_of_pictures, text_tells_elements,
 };

@@ -15,9 +15,9 @@ use Rattle.run_status.specs.declared.item.Item.TheVariants as item
 use Rattle.run_status.specs.declared.refusal.Refusal.TheVariants as refused
 use Rattle.run_status.specs.declared.status.Status.TheVariants as status
 use Rattle.command_words.specs.Asked.{graph, make, check, page}
-use Rattle.map_page.specs.Pages.{page_bytes}
+use Rattle.map_page.specs.Pages.{is_picture, page_bytes}
 use Rattle.command_paths.specs.Paths.{Chosen, MapPaths, NewPaths}
-use Rattle.page_command.specs.PageWorks.{is_picture, page_at, page_work}
+use Rattle.page_command.specs.PageWorks.{page_at, page_work}
 use Rattle.asked_inputs.specs.Inputs.{input_path}
 use Rattle.run_status.specs.Outputs.{said}
 use Rattle.table_commands.specs.TableWorks.{graph_work}

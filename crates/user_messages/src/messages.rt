@@ -5,7 +5,7 @@ use crate::bad_graph::bad_graph;
 use crate::bad_row::{BadRow, bad_row};
 use crate::bad_settings::bad_settings;
 use crate::done::done;
-use crate::files::{missing, unread, unwritten};
+use crate::files::{unread, unwritten};
 use crate::limits::{above, no_memory};
 use crate::no_picture::no_picture;
 use crate::no_route::no_route;
@@ -46,11 +46,28 @@ fn of_command<R: Files + AllocGlobal + Clone + Drop>(
         Status::Done => done(rt, command, &inputs),
         Status::WriteFault => unwritten(rt.alloc(), command, fault),
         Status::BadEdit { line } => bad_edit(rt, &inputs, *line),
-        Status::NoRoute { seg } => no_route(rt, command, &inputs, *seg),
-        Status::Spent { branches, .. } => spent(rt, command, &inputs, *branches),
-        Status::Limit(limit) => above(rt, command, &inputs, *limit),
-        Status::NoMemory => no_memory(rt, command, &inputs),
+        Status::NoRoute { .. } | Status::Spent { .. } | Status::Limit(_) | Status::NoMemory => {
+            of_size(rt, command, &inputs, status)
+        }
         _ => of_inputs(rt, &inputs, status),
+    }
+}
+
+/// The lines where a network is too large or too dense for its settings. A trial has none that could be set.
+fn of_size<R: Files + AllocGlobal>(
+    rt: &R,
+    command: &Command<'_>,
+    inputs: &Inputs<'_>,
+    status: &Status,
+) -> Result<String, NoMemory> {
+    if let Command::Trial { .. } = command {
+        return Ok(String::new(rt.alloc()));
+    }
+    match status {
+        Status::NoRoute { seg } => no_route(rt, command, inputs, *seg),
+        Status::Spent { branches, .. } => spent(rt, command, inputs, *branches),
+        Status::Limit(limit) => above(rt, command, inputs, *limit),
+        _ => no_memory(rt, command, inputs),
     }
 }
 

@@ -39,7 +39,8 @@ pub(crate) fn is_plain_make<R: Files + AllocGlobal>(
 ) -> Result<bool, NoMemory> {
     match command {
         Command::Make { .. } => {
-            Ok(options.defaults == Defaults::Make && !is_set(rt, options, "method")?)
+            let is_chosen = is_set(rt, options, "method")?;
+            Ok(options.defaults == Defaults::Make && !is_chosen)
         }
         _ => Ok(false),
     }

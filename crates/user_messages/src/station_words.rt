@@ -7,9 +7,6 @@ use message_texts::quoted;
 use std::alloc::Global;
 use transit_feed::Station;
 
-/// How many microdegrees a degree has.
-const DEGREE: u64 = 1_000_000;
-
 /// What a node is called; a junction has no name.
 pub(crate) fn node_name(
     alloc: Global,
@@ -41,8 +38,8 @@ fn station_words(alloc: Global, station: &Station) -> Result<String, NoMemory> {
 fn degrees(alloc: Global, micro: i64) -> Result<String, NoMemory> {
     let sign = if micro < 0 { "-" } else { "" };
     let size = micro.unsigned_abs();
-    let whole = size / DEGREE;
-    let rest = size % DEGREE;
+    let whole = size / 1_000_000;
+    let rest = size % 1_000_000;
     Ok(format!(in alloc; "{sign}{whole}.{rest:06}")?)
 }
 
