@@ -1,5 +1,6 @@
 -- Settings after what is set, one text after another.
 use Rattle.std.proofs.Common.{◌≡◌, ℕ, List, [], ◌∷◌, Result, Ok, Err, refl, sym, ap, subst, ◌∙◌}
+use Rattle.map_method.specs.declared.defaults.Defaults.{Defaults}
 use Rattle.map_method.specs.declared.map_settings.MapSettings.{MapSettings}
 use Rattle.map_method.specs.Defaults.{default_choices}
 use Rattle.map_settings.specs.declared.fault.SettingsWhy.{SettingsWhy}
@@ -56,3 +57,9 @@ refused_first texts fault.NoMemory first refused = tt
 pub read_over : (texts : Texts) (all : MapSettings) (first : Read) (result : Result MapSettings SettingsFault) → first ≡ Ok all
     → Reads result (sets_outcome texts (Ok (default_choices all.defaults))) → Reads result (over_named texts first)
 read_over texts all first result is reads = subst (λ (r : Read). Reads result (over_named texts r)) (sym is) reads
+
+-- where they name the command over whose settings they were read, nothing changes
+pub read_once : (texts : Texts) (defaults : Defaults) (all : MapSettings) → sets_outcome texts (Ok (default_choices defaults)) ≡ Ok all
+    → all.defaults ≡ defaults → over_named texts (sets_outcome texts (Ok (default_choices defaults))) ≡ Ok all
+read_once texts defaults all is same =
+    ap (over_named texts) is ∙ ap (λ (d : Defaults). sets_outcome texts (Ok (default_choices d))) same ∙ is

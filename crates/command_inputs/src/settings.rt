@@ -46,11 +46,14 @@ fn standard(alloc: Global, options: &Options<'_>) -> Result<MapSettings, Refusal
 }
 
 /// What is set, over the settings of the command that it names.
-#[tactic(auto, using(crate::proofs::SetLemmas::read_over, crate::proofs::SetLemmas::refused_first))]
+#[tactic(auto, using(crate::proofs::SetLemmas::read_once, crate::proofs::SetLemmas::read_over, crate::proofs::SetLemmas::refused_first))]
 fn set_alone(alloc: Global, options: &Options<'_>) -> Result<MapSettings, SettingsFault>
     ensures { Reads result (texts_outcome options.now.defaults (sets_of options.now.words.now)) }
 {
     let first = set_over(alloc, options.words, options.defaults)?;
+    if first.defaults == options.defaults {
+        return Ok(first);
+    }
     set_over(alloc, options.words, first.defaults)
 }
 
@@ -97,7 +100,7 @@ fn settings_in(
 }
 
 /// The settings that the bytes of a file make, after what is set, over those of the command that they name.
-#[tactic(auto, using(crate::proofs::SetLemmas::read_over, crate::proofs::SetLemmas::refused_first))]
+#[tactic(auto, using(crate::proofs::SetLemmas::read_once, crate::proofs::SetLemmas::read_over, crate::proofs::SetLemmas::refused_first))]
 fn settings_of(
     alloc: Global,
     bytes: &[u8],
@@ -106,6 +109,9 @@ fn settings_of(
     ensures { Reads result (texts_outcome options.now.defaults (bytes.now ∷ sets_of options.now.words.now)) }
 {
     let first = file_over(alloc, bytes, options.words, options.defaults)?;
+    if first.defaults == options.defaults {
+        return Ok(first);
+    }
     file_over(alloc, bytes, options.words, first.defaults)
 }
 
