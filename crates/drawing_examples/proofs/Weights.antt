@@ -6,7 +6,7 @@ use Rattle.octi_grid.specs.declared.dir.Dir.TheVariants as dir
 use Rattle.octi_grid.specs.declared.point.GridPoint.{GridPoint}
 use Rattle.octi_grid.specs.Walks.{PlainWalk}
 use Rattle.drawing_weights.specs.Scales.{walk_weight_by, weight_by}
-use Rattle.drawing_weights.specs.Weights.{least_weight, point_of}
+use Rattle.drawing_weights.specs.Weights.{point_of}
 use Rattle.kept_walks.specs.Moves.{moves_scale}
 
 abbrev at : ℤ → ℤ → GridPoint
@@ -44,13 +44,6 @@ straight_weighs = refl
 -- a turn by 90 degrees counts 2, and eight times that
 corner : walk_weight_by moves_scale (record { start = at (pos 0) (pos 0); steps = dir.N ∷ dir.N ∷ dir.E ∷ dir.E ∷ [] }) ≡ 34
 corner = refl
-
--- two steps aslant and fourteen along an axis, with a turn
-knight : least_weight (at (pos 0) (pos 0)) (at (pos 16) (negsuc 1)) ≡ 75
-knight = refl
-
-diagonal : least_weight (at (pos 0) (pos 0)) (at (negsuc 3) (pos 4)) ≡ 20
-diagonal = refl
 
 middle : point_of row bent 1 ≡ at (pos 16) (pos 2)
 middle = refl

@@ -4,4 +4,3 @@ pub mod Routes
 pub mod Underway
 pub mod Routing
 pub mod Tours
-pub mod Standing
