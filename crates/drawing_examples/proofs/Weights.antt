@@ -1,5 +1,5 @@
 -- Small cases of the definitions.
-use Rattle.std.proofs.Common.{◌≡◌, ℤ, pos, negsuc, List, [], ◌∷◌, ◌++◌, replicate, refl}
+use Rattle.std.proofs.Common.{◌≡◌, ℤ, pos, List, [], ◌∷◌, ◌++◌, replicate, refl}
 use Rattle.graph_core.specs.declared.parts.NodeKind.TheVariants.{Station}
 use Rattle.graph_core.specs.declared.parts.GraphParts.{GraphParts}
 use Rattle.octi_grid.specs.declared.dir.Dir.TheVariants as dir
