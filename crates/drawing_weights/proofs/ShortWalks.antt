@@ -1,5 +1,5 @@
 -- Walks that come to no point again have no more steps than a board has points.
-use Rattle.std.proofs.Common.{◌≡◌, ◌∙◌, ℕ, suc, ◌≤◌, ◌<◌, true, false, eqb, pos, negsuc, List, [], ◌∷◌, length, map, sym, ap, refl, arith, ◌⊎◌, inl, inr}
+use Rattle.std.proofs.Common.{◌≡◌, ◌∙◌, ℕ, suc, ◌≤◌, ◌<◌, true, false, eqb, pos, negsuc, List, ◌∷◌, length, map, sym, ap, refl, arith, ◌⊎◌, inl, inr}
 use Rattle.std.proofs.lemmas.Bool.{and_from, and_parts, eqb-true, leb-true, ne_eqb, or_cases, false≢true}
 use Rattle.std.specs.Prelude.{nat_le, unsigned_abs}
 use Rattle.std.proofs.lemmas.Int.{ints}
@@ -18,7 +18,7 @@ use Rattle.grid_board.specs.declared.bounds.Bounds.{Bounds}
 use Rattle.grid_board.specs.Boards.{cell_of, cells_of, contains, point_of, AreBounds}
 use Rattle.grid_board.proofs.Within.{few_cells, inside_facts, inside_test, point_below, point_of-cell}
 use Rattle.drawing_weights.specs.Drawn.{IsShort}
-use Rattle.grid_board.specs.Points.{are_near, is_near}
+use Rattle.grid_board.specs.Points.{is_near}
 
 -- a point of a way is there doubled
 pub doubled_there : (q p : GridPoint) (ds : List Dir) → In q (points_from p ds) → In (doubled q) (doubled_from p ds)
@@ -102,7 +102,3 @@ all_inside (p ∷ ps) e = let parts = and_parts _ _ e in and_from _ _ (near_insi
 
 pub short_walk : (w : PlainWalk) → are_distinct (doubled_of w) ≡ true → list_all (is_near 1904) (points_from w.start w.steps) ≡ true → IsShort w
 short_walk w e near = short_inside widest are_widest w e (all_inside (points_from w.start w.steps) near)
-
-pub short_walks : (ws : List PlainWalk) → AllByRecursion (λ (w : PlainWalk). are_distinct (doubled_of w) ≡ true) ws → are_near 1904 ws ≡ true → AllByRecursion IsShort ws
-short_walks [] all near = tt
-short_walks (w ∷ ws) all near = let parts = and_parts _ _ near in (short_walk w all.0 parts.0, short_walks ws all.1 parts.1)
