@@ -1,5 +1,5 @@
 -- What is known of least shares stays so where neither the prices nor the pairs of a segment change.
-use Rattle.std.proofs.Common.{◌≡◌, ℕ, zero, suc, ◌+◌, ◌*◌, ◌-◌, ◌<◌, ◌≤◌, ◌==◌, ◌||◌, Bool, true, false, cond, List, ◌∷◌, ◌++◌, length, map, filter, take, get_or, set, refl, sym, ◌∙◌, ap, subst, arith, ◌⊎◌, inl, inr, true≢false, eq-eqb, eqb-true, get_or-set_same, get_or-set_other, Option, Some, None}
+use Rattle.std.proofs.Common.{◌≡◌, ℕ, zero, suc, ◌+◌, ◌*◌, ◌-◌, ◌<◌, ◌≤◌, ◌==◌, ◌||◌, Bool, true, false, cond, List, [], ◌∷◌, ◌++◌, length, map, filter, take, get_or, set, refl, sym, ◌∙◌, ap, subst, arith, ◌⊎◌, inl, inr, true≢false, eq-eqb, eqb-true, get_or-set_same, get_or-set_other, Option, Some, None}
 use Rattle.std.specs.Prelude.{ℤ, pos, ◌+ℤ◌, ◌-ℤ◌}
 use Rattle.std.specs.List.{All, AllByRecursion}
 use Rattle.std.proofs.lemmas.Bool.{cases_eq, cases_lt, ne_eqb}
@@ -10,7 +10,7 @@ use Rattle.map_base.specs.declared.ids.LineId.{LineId}
 use Rattle.order_model.specs.declared.term.Term.{Term}
 use Rattle.order_model.specs.declared.term.Term.TheVariants.{Side, Link, Apart}
 use Rattle.order_model.specs.Problems.{lines_on}
-use Rattle.order_model.specs.Costs.{comes_before, are_neighbours}
+use Rattle.order_model.specs.Costs.{comes_before, are_neighbours, seg_of, other_of}
 use Rattle.order_model.specs.Parts.{IsRisingPart}
 use Rattle.order_model.specs.PartTerms.{is_in, no_term, terms_by_number, part_numbers, part_terms}
 use Rattle.order_model.proofs.Lines.{neither}
@@ -207,6 +207,16 @@ forgets_at shares place room k = elim (cases_eq k place) [
 either : (a b : Bool) → (a || b) ≡ true → (a ≡ true) ⊎ (b ≡ true)
 either true b h = inl refl
 either false b h = inr h
+
+-- both ends of a term
+pub term_forgotten : (asked : Asked) (n : ℕ) (between new : List KnownShare) → IsForgotten asked.part.now (seg_of (get_or asked.problem.now.terms n no_term)) between → Forgets between new
+    → IsForgotten asked.part.now (other_of (get_or asked.problem.now.terms n no_term)) new → IsTermForgotten asked n new
+term_forgotten asked n between new one fewer two k below on =
+    let t : Term = get_or asked.problem.now.terms n no_term in
+    elim (either ((seg_of t).0 == (segment_at asked.part.now k).0) ((other_of t).0 == (segment_at asked.part.now k).0) on) [
+      | inl here ↦ still_unknown between new k fewer (one k below (turned (seg_of t).0 (segment_at asked.part.now k).0 true here))
+      | inr there ↦ two k below (turned (other_of t).0 (segment_at asked.part.now k).0 true there)
+    ]
 
 -- Prices, one after another.
 

@@ -1,10 +1,10 @@
 -- What stands at a node stays right from step to step.
-use Rattle.std.proofs.Common.{◌≡◌, ◌≢◌, ℕ, ◌<◌, List, ◌∷◌, ◌++◌, length, get_or, set, sym, ◌∙◌, ap, subst, arith, ◌⊎◌, inl, inr, get_or-set_same, get_or-set_other, Some, None}
+use Rattle.std.proofs.Common.{◌≡◌, ◌≢◌, ℕ, ◌<◌, List, [], ◌∷◌, ◌++◌, length, replicate, get_or, set, refl, sym, ◌∙◌, ap, subst, arith, ◌⊎◌, inl, inr, get_or-set_same, get_or-set_other, Some, None}
 use Rattle.std.specs.Prelude.{ℤ}
 use Rattle.std.specs.List.{All}
 use Rattle.std.proofs.lemmas.Bool.{cases_eq}
-use Rattle.std.proofs.lemmas.List.{get_or_default, length-set}
-use Rattle.std.proofs.lemmas.List.Elements.{All-nil, All-push}
+use Rattle.std.proofs.lemmas.List.{get_or_default, length-set, length-replicate, get_or-replicate}
+use Rattle.std.proofs.lemmas.List.Elements.{All-nil, All-push, All-pop}
 use Rattle.dual_bound.specs.declared.settled.SettledPair.{SettledPair}
 use Rattle.dual_check.specs.declared.asked.Asked.{Asked}
 use Rattle.dual_check.specs.declared.node.KnownShare.{KnownShare}
@@ -12,7 +12,7 @@ use Rattle.dual_check.specs.declared.node.KnownShare.TheVariants.{Unknown, NoOrd
 use Rattle.dual_check.specs.declared.node.Node.{Node}
 use Rattle.dual_check.specs.Settling.{IsPairOn}
 use Rattle.dual_check.specs.Nodes.{IsSo, known_at, share_at, IsNode, ArePrices, Forgets, IsForgotten, ArePricedOff}
-use Rattle.dual_check.proofs.Known.{AreSo, so_settled, so_priced}
+use Rattle.dual_check.proofs.Known.{AreSo, so_settled, so_taken_back, so_priced}
 
 -- What is read.
 
@@ -48,6 +48,12 @@ node_of asked node settled prices shares e f g pairs allowed each so = record {
 no_prices : (asked : Asked) → ArePrices asked []
 no_prices asked = record { rising = tt; small = λ k. omega arith; known = All-nil (λ (q : ℕ × ℤ). q.0 < length asked.problem.now.terms) }
 
+-- the root
+pub root_is : (asked : Asked) (node : Node) (count : ℕ) → length asked.part.now ≡ count → node.settled.items ≡ [] → node.prices.items ≡ [] → node.shares.items ≡ replicate count Unknown → IsNode asked node
+root_is asked node count e none no_price unknown =
+    node_of asked node [] [] (replicate count Unknown) none no_price unknown (All-nil (IsPairOn asked.problem.now.segs)) (no_prices asked) (length-replicate count Unknown ∙ sym e)
+    (λ k below. subst (λ x. IsSo x (share_at asked [] [] k)) (sym (get_or-replicate count k Unknown Unknown (omega (arith, below, e)))) tt)
+
 -- one pair more
 pub node_settled : (asked : Asked) (old new : Node) (pair : SettledPair) (shares : List KnownShare) → IsNode asked old → IsPairOn asked.problem.now.segs pair
     → Forgets old.shares.items shares → IsForgotten asked.part.now pair.seg shares → length shares ≡ length old.shares.items
@@ -55,6 +61,15 @@ pub node_settled : (asked : Asked) (old new : Node) (pair : SettledPair) (shares
 node_settled asked old new pair shares is on fewer gone each e f g =
     node_of asked new (old.settled.items ++ pair ∷ []) old.prices.items shares e f g (All-push (IsPairOn asked.problem.now.segs) old.settled.items pair is.pairs on) is.prices (each ∙ is.each)
     (so_settled asked old.settled.items pair old.prices.items old.shares.items shares fewer gone is.known)
+
+-- the last pair less
+pub node_taken_back : (asked : Asked) (old new : Node) (pair : SettledPair) (shares : List KnownShare) → IsNode asked old
+    → Forgets old.shares.items shares → IsForgotten asked.part.now pair.seg shares → length shares ≡ length old.shares.items
+    → old.settled.items ≡ new.settled.items ++ pair ∷ [] → new.prices.items ≡ old.prices.items → new.shares.items ≡ shares → IsNode asked new
+node_taken_back asked old new pair shares is fewer gone each e f g =
+    node_of asked new new.settled.items old.prices.items shares refl f g (All-pop (IsPairOn asked.problem.now.segs) old.settled.items new.settled.items (Some pair) e is.pairs).0 is.prices (each ∙ is.each)
+    (so_taken_back asked new.settled.items pair old.prices.items old.shares.items shares fewer gone
+    (subst (λ (l : List SettledPair). AreSo asked l old.prices.items old.shares.items) e is.known))
 
 -- other prices
 pub node_priced : (asked : Asked) (old new : Node) (prices : List (ℕ × ℤ)) (between shares : List KnownShare) → IsNode asked old → ArePrices asked prices

@@ -1,5 +1,5 @@
 -- The settled pairs of a segment, and its rows.
-use Rattle.std.proofs.Common.{◌≡◌, ℕ, zero, suc, ◌+◌, ◌<◌, ◌≤◌, ◌==◌, ◌&&◌, Bool, true, false, cond, List, ◌∷◌, ◌++◌, length, map, filter, take, get_or, refl, sym, ◌∙◌, ap, subst, arith, max}
+use Rattle.std.proofs.Common.{◌≡◌, ℕ, zero, suc, ◌+◌, ◌<◌, ◌≤◌, ◌==◌, ◌&&◌, Bool, true, false, cond, List, [], ◌∷◌, ◌++◌, length, map, filter, take, get_or, refl, sym, ◌∙◌, ap, subst, arith, max}
 use Rattle.std.specs.Prelude.{Vec, reverse, nat_le}
 use Rattle.std.specs.Global.{Global}
 use Rattle.std.specs.List.{All, list_all}
@@ -21,6 +21,7 @@ use Rattle.dual_bound.specs.Accepting.{is_narrow}
 use Rattle.dual_bound.proofs.Segments.{same_seg}
 use Rattle.dual_shares.specs.Groups.{is_on, numbers_on}
 use Rattle.dual_shares.specs.RowSteps.{AreTwoOf}
+use Rattle.dual_shares.specs.SettledSets.{TellAhead}
 use Rattle.dual_shares.proofs.Grouping.{items_of, lists_each}
 use Rattle.dual_check.specs.Settling.{pairs_of, IsPairOn, IsPairHere}
 use Rattle.dual_check.proofs.Walks.{pushed_pairs}
@@ -37,6 +38,16 @@ one_pair : (p : SettledPair) (rest : List SettledPair) (s : SegId) (b : Bool) �
     → settled_on (p ∷ rest) s ≡ cond b ((p.first, p.second) ∷ settled_on rest s) (settled_on rest s)
 one_pair p rest s true e = ap (λ c. map (λ (r : SettledPair). (r.first, r.second)) (cond c (p ∷ filter (λ (r : SettledPair). r.seg.0 == s.0) rest) (filter (λ (r : SettledPair). r.seg.0 == s.0) rest))) e
 one_pair p rest s false e = ap (λ c. map (λ (r : SettledPair). (r.first, r.second)) (cond c (p ∷ filter (λ (r : SettledPair). r.seg.0 == s.0) rest) (filter (λ (r : SettledPair). r.seg.0 == s.0) rest))) e
+
+pub ahead_more : (settled : List SettledPair) (i : ℕ) (p : SettledPair) (s : SegId) (lines : List LineId) (ahead : List ℕ) → i < length settled → p ≡ get_or settled i p → (p.seg.0 == s.0) ≡ true
+    → TellAhead ((p.first, p.second) ∷ settled_on (pairs_of (take i settled)) s) lines ahead → TellAhead (settled_on (pairs_of (take (i + 1) settled)) s) lines ahead
+ahead_more settled i p s lines ahead below is here tell =
+    subst (λ (l : List (LineId × LineId)). TellAhead l lines ahead) (sym (pairs_more settled i p s below is ∙ one_pair p (pairs_of (take i settled)) s true here)) tell
+
+pub ahead_same : (settled : List SettledPair) (i : ℕ) (p : SettledPair) (s : SegId) (lines : List LineId) (ahead : List ℕ) → i < length settled → p ≡ get_or settled i p → (p.seg.0 == s.0) ≡ false
+    → TellAhead (settled_on (pairs_of (take i settled)) s) lines ahead → TellAhead (settled_on (pairs_of (take (i + 1) settled)) s) lines ahead
+ahead_same settled i p s lines ahead below is apart tell =
+    subst (λ (l : List (LineId × LineId)). TellAhead l lines ahead) (sym (pairs_more settled i p s below is ∙ one_pair p (pairs_of (take i settled)) s false apart)) tell
 
 -- Pairs are of lines of their segments.
 

@@ -1,7 +1,8 @@
 -- The value of prices, summed from the last segment of a part to the first.
-use Rattle.std.proofs.Common.{◌≡◌, ℕ, ℤ, zero, suc, ◌+◌, ◌-◌, ◌*◌, ◌<◌, ◌≤◌, List, ◌∷◌, length, drop, get_or, refl, sym, ◌∙◌, ap, arith, Option, Some, None}
+use Rattle.std.proofs.Common.{◌≡◌, ℕ, ℤ, zero, suc, ◌+◌, ◌-◌, ◌*◌, ◌<◌, ◌≤◌, List, [], ◌∷◌, length, drop, get_or, refl, sym, ◌∙◌, ap, arith, Option, Some, None}
 use Rattle.std.specs.Prelude.{pos, ◌+ℤ◌, ◌-ℤ◌, ◌≤ℤ◌}
 use Rattle.std.proofs.lemmas.Int.{ints}
+use Rattle.std.proofs.lemmas.List.{drop_all}
 use Rattle.map_base.specs.declared.ids.SegId.{SegId}
 use Rattle.map_base.specs.declared.ids.LineId.{LineId}
 use Rattle.order_model.specs.declared.term.Term.{Term}
@@ -9,6 +10,9 @@ use Rattle.dual_bound.specs.declared.settled.SettledPair.{SettledPair}
 use Rattle.dual_bound.specs.Values.{least_share, plus, value_of}
 
 module _ (segs : List (List LineId)) (terms : List (ℕ × Term)) (price : ℕ → ℤ) (settled : List SettledPair) where
+  pub value_at_end : (part : List SegId) (k : ℕ) → length part ≤ k → Some (pos 0) ≡ value_of segs terms price settled (drop k part)
+  value_at_end part k over = sym (ap (value_of segs terms price settled) (drop_all k part over))
+
   step : (part : List SegId) (k : ℕ) (d : SegId) → k < length part
       → value_of segs terms price settled (drop k part) ≡ plus (least_share segs terms price settled (get_or part k d)) (value_of segs terms price settled (drop (k + 1) part))
   step [] k d below = absurd (omega (arith, below))

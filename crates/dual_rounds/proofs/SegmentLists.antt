@@ -1,11 +1,11 @@
 -- Lists with one element a segment.
-use Rattle.std.proofs.Common.{◌≡◌, ℕ, zero, suc, ◌+◌, ◌<◌, List, ◌∷◌, ◌++◌, length, map, drop, get_or, set, refl, sym, ◌∙◌, ap, arith}
+use Rattle.std.proofs.Common.{◌≡◌, ℕ, zero, suc, ◌+◌, ◌<◌, List, [], ◌∷◌, ◌++◌, length, map, drop, get_or, set, refl, sym, ◌∙◌, ap, arith}
 use Rattle.std.specs.Prelude.{Vec}
 use Rattle.std.specs.Global.{Global}
 use Rattle.std.specs.List.{All}
 use Rattle.std.proofs.lemmas.List.Elements.{All-nil, All-cons, All-append}
 use Rattle.std.specs.Vec.{with_items}
-use Rattle.std.proofs.lemmas.List.{at_drop_more, get_or-map, map-set, with_items_is}
+use Rattle.std.proofs.lemmas.List.{append_assoc, at_drop_more, get_or-map, map-set, with_items_is}
 use Rattle.map_base.specs.declared.ids.SegId.{SegId}
 use Rattle.map_base.specs.declared.ids.LineId.{LineId}
 use Rattle.order_model.specs.declared.problem.ProblemParts.{ProblemParts}
@@ -73,6 +73,14 @@ copied_by from s order = get_or from s []
 
 pub length_of_averages : (averages : List (Vec PairAverage Global)) → length (averages_of averages) ≡ length averages
 length_of_averages averages = length_mapped (λ (v : Vec PairAverage Global). v.items) averages
+
+-- the pairs of a line and of all behind it, with those of the lines behind it
+pub never_pushed : (lines behind : List LineId) (i : ℕ) (a : LineId) (old new : List PairAverage) → i < length lines → a ≡ get_or lines i a → behind ≡ drop (i + 1) lines
+    → old ++ never_all (drop i lines) ≡ never_all lines → new ≡ old ++ map (never a) behind → new ++ never_all (drop (i + 1) lines) ≡ never_all lines
+never_pushed lines behind i a old new below is rest so_far pushed =
+    ap (λ l. l ++ never_all (drop (i + 1) lines)) (pushed ∙ ap (λ l. old ++ map (never a) l) rest)
+    ∙ (append_assoc old (map (never a) (drop (i + 1) lines)) (never_all (drop (i + 1) lines))
+    ∙ (ap (λ l. old ++ l) (ap (λ b. map (never b) (drop (i + 1) lines) ++ never_all (drop (i + 1) lines)) is ∙ sym (never_more lines i a below)) ∙ so_far))
 
 -- Averages as they lie in memory.
 

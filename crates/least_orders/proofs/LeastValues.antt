@@ -1,5 +1,5 @@
 -- Laws of the least value and of the first that has it.
-use Rattle.std.proofs.Common.{◌≡◌, Bool, true, false, cond, List, ◌∷◌, ◌++◌, map, refl, sym, ◌∙◌, ap, subst, arith, ◌⊎◌, inl, inr, Option, Some, None}
+use Rattle.std.proofs.Common.{◌≡◌, Bool, true, false, cond, List, [], ◌∷◌, ◌++◌, map, refl, sym, ◌∙◌, ap, subst, arith, ◌⊎◌, inl, inr, Option, Some, None}
 use Rattle.std.specs.Prelude.{ℤ, ◌+ℤ◌, ◌≤ℤ◌, int_lt}
 use Rattle.std.specs.Int.{int_min}
 use Rattle.std.specs.List.{AllByRecursion}
@@ -132,6 +132,15 @@ first_least_same {A = A} value other (x ∷ xs) h = ap (λ o. Some (first_of val
 abbrev pub lesser : Option ℤ → Option ℤ → Option ℤ
 lesser None other = other
 lesser (Some v) other = Some (lesser_of v other)
+
+pub better_value : {A : Type 0} (value : A → ℤ) (a b : Option A) → option_map value (better value a b) ≡ lesser (option_map value a) (option_map value b)
+better_value value None b = refl
+better_value value (Some x) None = refl
+better_value value (Some x) (Some y) = by_test (int_lt (value y) (value x))
+  where
+    by_test : (b : Bool) → Some (value (cond b y x)) ≡ Some (cond b (value y) (value x))
+    by_test true = refl
+    by_test false = refl
 
 pub least_value_same : {A : Type 0} (value other : A → ℤ) (xs : List A) → AllByRecursion (λ x. value x ≡ other x) xs → least_value value xs ≡ least_value other xs
 least_value_same value other [] h = refl

@@ -1,5 +1,5 @@
 -- What the tables of a Close come to.
-use Rattle.std.proofs.Common.{◌≡◌, ℕ, zero, suc, ◌<◌, ◌≤◌, Bool, true, false, cond, List, ◌∷◌, length, map, get_or, refl, sym, ◌∙◌, ap, subst, arith, Some, None}
+use Rattle.std.proofs.Common.{◌≡◌, ℕ, zero, suc, ◌<◌, ◌≤◌, Bool, true, false, cond, List, [], ◌∷◌, length, map, get_or, refl, sym, ◌∙◌, ap, subst, arith, Some, None}
 use Rattle.std.specs.Prelude.{ℤ, pos, ◌+ℤ◌, int_le}
 use Rattle.std.specs.List.{AllByRecursion}
 use Rattle.std.proofs.lemmas.List.{take_all, get_or-map, length-map}
@@ -15,6 +15,7 @@ use Rattle.order_bound.specs.Values.{least_answer, are_allowed, value_of, pair_v
 use Rattle.order_values.specs.PriceLists.{price_at}
 use Rattle.whole_sums.specs.Sums.{int_sum}
 use Rattle.order_bound.specs.Accepting.{reaches, is_closed}
+use Rattle.order_model.specs.Questions.{Question}
 use Rattle.order_bound.proofs.Bounding.{AreNumbered}
 use Rattle.order_bound.proofs.Completing.{IsPart}
 use Rattle.order_bound.proofs.Parts.{part_of_problem, part_numbered}
@@ -81,6 +82,10 @@ table_numbers asked ok = record {
       (omega (arith, known, length-map (part_terms asked.problem.now.terms asked.part.now) (λ (q : ℕ × Term). q.0))));
 }
 
+-- a Close fails where a price isn't allowed
+pub not_closed : (q : Question) (placed : List (List LineId)) (prices : List (ℕ × ℤ)) → are_allowed placed q.terms prices ≡ false → is_closed q placed prices ≡ false
+not_closed q placed prices h = rw h refl
+
 -- what the tables come to is the value
 pub closed_by_costs : (asked : Asked) (placed : List (List LineId)) (prices : List (ℕ × ℤ)) (dense : List ℤ) (costs : List SlotCost) (decided : ℕ) (least : ℤ) → IsAsked asked
     → are_allowed placed (map plain_term asked.table.now.terms.items) prices ≡ true
@@ -106,6 +111,9 @@ closed_by_costs asked placed prices dense costs decided least ok allowed told ea
 
     slots : List Slot
     slots = asked.table.now.slots.keys
+
+    no_slot : Slot
+    no_slot = slot_of (record { 0 = 0 }) (record { 0 = 0 }) (record { 0 = 0 })
 
     all_allowed : are_allowed placed (part_terms asked.problem.now.terms asked.part.now) prices ≡ true
     all_allowed = ap (λ ts. are_allowed placed ts prices) (sym ok.table.listed) ∙ allowed

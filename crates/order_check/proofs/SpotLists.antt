@@ -1,6 +1,6 @@
 -- Lists of terms by spots.
 use mathlib.Core.Bool.{beq}
-use Rattle.std.proofs.Common.{◌≡◌, ◌≢◌, ℕ, zero, suc, ◌+◌, ◌<◌, ◌≤◌, ◌==◌, ◌&&◌, ◌||◌, not, Bool, true, false, cond, List, ◌∷◌, ◌++◌, length, set, get_or, append-nil, refl, sym, ◌∙◌, ap, arith, Option, Some, None, true≢false, eqb-true, eq-eqb}
+use Rattle.std.proofs.Common.{◌≡◌, ◌≢◌, ℕ, zero, suc, ◌+◌, ◌<◌, ◌≤◌, ◌==◌, ◌&&◌, ◌||◌, not, Bool, true, false, cond, List, [], ◌∷◌, ◌++◌, length, set, get_or, append-nil, refl, sym, ◌∙◌, ap, arith, Option, Some, None, true≢false, eqb-true, eq-eqb}
 use Rattle.std.specs.Prelude.{nat_lt, position}
 use Rattle.std.specs.List.{All, list_any, position_or_len}
 use Rattle.std.proofs.lemmas.Bool.{and_parts, eqb-false, ne_eqb, ltb-false}
@@ -226,6 +226,14 @@ on_two_segments seg other e t u old apart =
     by_either true false true = refl
     by_either true false false = refl
     by_either false y z = refl
+
+-- the only segment of a Side
+pub side_at : (seg : SegId) (first second : LineId) (w : ℕ) (u : Spot) → ((seg.0 == u.seg.0) && (beq false u.apart && is_either first second u.line)) ≡ is_at u (Side seg first second w)
+side_at seg first second w u = by_test (seg.0 == u.seg.0)
+  where
+    by_test : (b : Bool) → (b && (beq false u.apart && is_either first second u.line)) ≡ ((b || b) && (beq false u.apart && is_either first second u.line))
+    by_test true = refl
+    by_test false = refl
 
 -- The table, term by term.
 

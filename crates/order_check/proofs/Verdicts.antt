@@ -1,5 +1,5 @@
 -- The first item that is refused, one by one, and what it shows that there is none.
-use Rattle.std.proofs.Common.{◌≡◌, ◌≢◌, ℕ, zero, suc, ◌+◌, ◌*◌, ◌^◌, ◌<◌, ◌≤◌, ◌==◌, Bool, true, false, cond, List, ◌∷◌, length, map, take, drop, get_or, refl, sym, ◌∙◌, ap, subst, arith, Some, None, Option, eqb-true, eq-eqb}
+use Rattle.std.proofs.Common.{◌≡◌, ◌≢◌, ℕ, zero, suc, ◌+◌, ◌*◌, ◌^◌, ◌<◌, ◌≤◌, ◌==◌, Bool, true, false, cond, List, [], ◌∷◌, length, map, take, drop, get_or, refl, sym, ◌∙◌, ap, subst, arith, Some, None, Option, eqb-true, eq-eqb}
 use Rattle.std.specs.List.{All, AllByRecursion, sum_by}
 use Rattle.std.proofs.lemmas.List.{at_drop_more, drop_all, get_or-map, length-map}
 use Rattle.std.proofs.lemmas.List.Elements.{All-head, All-tail}
@@ -62,6 +62,10 @@ module _ (segs : List (List LineId)) (terms : List Term) (parts : List (List Seg
       sym h ∙ ap (λ ps. first_part segs terms k ps (drop k proofs)) (drop_all k parts over)
       ∙ at_drop_more (λ rs. first_part segs terms k [] rs) proofs k any_part below
 
+  pub no_part_left : (k : ℕ) → length parts ≤ k → length proofs ≤ k → FirstFrom segs terms parts proofs k → first_part segs terms 0 parts proofs ≡ None
+  no_part_left k over over_too h =
+      sym h ∙ ap (λ ps. first_part segs terms k ps (drop k proofs)) (drop_all k parts over) ∙ ap (λ rs. first_part segs terms k [] rs) (drop_all k proofs over_too)
+
   at_part : (k : ℕ) (d : List SegId) (e : PlainPart) → k < length parts → k < length proofs → FirstFrom segs terms parts proofs k
       → first_item (part_refusal segs terms k (get_or parts k d) (get_or proofs k e)) (first_part segs terms (k + 1) (drop (k + 1) parts) (drop (k + 1) proofs))
       ≡ first_part segs terms 0 parts proofs
@@ -87,6 +91,11 @@ module _ (segs : List (List LineId)) (terms : List Term) (parts : List (List Seg
 pub refused_first : (first later : Option ProofItem) (stop : ProofStop) → IsCause first stop → IsCause (first_item first later) stop
 refused_first first later (stop.Refuted i) h = ap (λ f. first_item f later) h
 refused_first first later stop.NoMemory h = tt
+
+-- where nothing is refused first, what comes behind is
+pub refused_later : (first later : Option ProofItem) (stop : ProofStop) → first ≡ None → IsCause later stop → IsCause (first_item first later) stop
+refused_later first later (stop.Refuted i) none h = ap (λ f. first_item f later) none ∙ h
+refused_later first later stop.NoMemory none h = tt
 
 pub none_both : (first later : Option ProofItem) → first ≡ None → later ≡ None → first_item first later ≡ None
 none_both first later none none_too = ap (λ f. first_item f later) none ∙ none_too

@@ -1,5 +1,5 @@
 -- A walk over a tree, node by node and case by case.
-use Rattle.std.proofs.Common.{◌≡◌, ℕ, ℤ, zero, suc, ◌+◌, ◌-◌, ◌<◌, ◌≤◌, ◌==◌, ◌&&◌, ◌||◌, Bool, true, false, cond, List, ◌∷◌, ◌++◌, length, drop, take, set, get_or, Vec, Global, refl, sym, ◌∙◌, ap, subst, arith, inl, inr, true≢false, length-append, Some, None, Option, rules}
+use Rattle.std.proofs.Common.{◌≡◌, ℕ, ℤ, zero, suc, ◌+◌, ◌-◌, ◌<◌, ◌≤◌, ◌==◌, ◌&&◌, ◌||◌, Bool, true, false, cond, List, [], ◌∷◌, ◌++◌, length, drop, take, set, get_or, Vec, Global, refl, sym, ◌∙◌, ap, subst, arith, inl, inr, true≢false, length-append, Some, None, Option, rules, append_assoc}
 use Rattle.std.specs.Prelude.{nat_lt}
 use Rattle.std.specs.List.{Contains, list_all, find}
 use Rattle.std.specs.Option.{option_to_list}
@@ -16,7 +16,7 @@ use Rattle.order_proof.specs.Plain.{split, close, plain, plain_children}
 use Rattle.order_proof.specs.Trees.{is_among, lines_of, AreDistinct, IsTree, AreTrees}
 use Rattle.order_model.specs.PartTerms.{is_in}
 use Rattle.order_model.specs.Completions.{placed_more}
-use Rattle.order_bound.specs.Accepting.{are_those_left, is_split, after_line, first_of, failing, failing_case}
+use Rattle.order_bound.specs.Accepting.{is_closed, are_those_left, is_split, after_line, first_of, failing, failing_case}
 use Rattle.order_model.specs.Questions.{Question}
 use Rattle.order_model.proofs.Lines.{both_true, either_true, not_true, same_line}
 use Rattle.order_check.specs.Children.{child_lines}
@@ -53,6 +53,11 @@ child_is_tree seg children i child h below is = subst (λ (c : LineId × Tree). 
 pub closed_walked : (b : Bool) (way : List LineId) → IsWalked (cond b None (Some [])) way way b
 closed_walked true way = (refl, refl)
 closed_walked false way = ([], refl, sym (append-nil way))
+
+pub close_walked : (q : Question) (placed : List (List LineId)) (tree : Tree) (prices : List (ℕ × ℤ)) (b : Bool) (way : List LineId)
+    → tree ≡ Close prices → b ≡ is_closed q placed prices → IsWalked (failing q placed (plain tree)) way way b
+close_walked q placed tree prices b way is e =
+    rw (is, plain-Close prices, e) (closed_walked (is_closed q placed prices) way)
 
 pub split_walked : (q : Question) (placed : List (List LineId)) (tree : Tree) (seg : SegId) (children : Vec (LineId × Tree) Global) (before after : List LineId) (b : Bool)
     → tree ≡ Split seg children → IsWalked (failing q placed (split seg (plain_children children.items))) before after b
@@ -116,6 +121,17 @@ case_refused q placed now s children i x before here after b below holds h is sa
     let three = subst (λ c. IsWalked (after_line x.0 (failing q (placed_more q.segs placed s x.0) (plain x.1))) before after c) unmet two in
     case_failed q placed s children i x before after below holds h
     (subst (λ y. IsWalked (after_line y.0 (failing q (placed_more q.segs placed s y.0) (plain y.1))) before after false) is three)
+
+pub case_accepted : (q : Question) (placed now : List (List LineId)) (s : SegId) (children : List (LineId × Tree)) (i : ℕ) (x : LineId × Tree) (before here after : List LineId) (b : Bool)
+    → i < length children → FailsFrom q placed s children i
+    → x ≡ get_or children i x → now ≡ placed → here ≡ before → b ≡ true
+    → IsWalked (after_line x.0 (failing q (placed_more q.segs now s x.0) (plain x.1))) here after b
+    → (after ≡ before) × FailsFrom q placed s children (i + 1)
+case_accepted q placed now s children i x before here after b below h is same_placed same_way met w =
+    let one = subst (λ p. IsWalked (after_line x.0 (failing q (placed_more q.segs p s x.0) (plain x.1))) here after b) same_placed w in
+    let two = subst (λ l. IsWalked (after_line x.0 (failing q (placed_more q.segs placed s x.0) (plain x.1))) l after b) same_way one in
+    let three = subst (λ c. IsWalked (after_line x.0 (failing q (placed_more q.segs placed s x.0) (plain x.1))) before after c) met two in
+    (three.1, case_passed q placed s children i x below h (subst (λ y. after_line y.0 (failing q (placed_more q.segs placed s y.0) (plain y.1)) ≡ None) is three.0))
 
 pub cases_passed : (q : Question) (placed : List (List LineId)) (s : SegId) (children : List (LineId × Tree)) (i : ℕ) (way : List LineId) → length children ≤ i
     → split_test q placed s (child_lines children) ≡ true → FailsFrom q placed s children i
@@ -193,6 +209,10 @@ case_restored segs before placed walked after s a known rising ok p w t =
     t ∙ ap (λ l. set l s.0 (without_last (lines_on segs s) (lines_on l s))) is ∙ taken_back segs before s a known rising ok
 
 -- The way of a case.
+
+pub case_walked : (f : Option (List LineId)) (a : LineId) (before after : List LineId)
+    → IsWalked f (before ++ a ∷ []) after false → IsWalked (after_line a f) before after false
+case_walked f a before after h = (a ∷ h.0, ap (after_line a) h.1, h.2 ∙ append_assoc before (a ∷ []) h.0)
 
 pub case_done : (f : Option (List LineId)) (a : LineId) (before after shorter : List LineId)
     → IsWalked f (before ++ a ∷ []) after true → shorter ≡ take (length after - 1) after → IsWalked (after_line a f) before shorter true

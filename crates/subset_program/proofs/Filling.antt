@@ -25,8 +25,18 @@ greater_kept r set last old new within tails filled more k above below there has
     subst (λ (t : Tail). Tells r more k t) (sym (filled.others (more * r.count + k) (apart_rows set more r.count last k (omega (arith, above)) within there)))
     (tails more k above below there has)
 
+pub set_done : (r : Rows) (set : ℕ) (table : List Tail) → HasTails r (set + 1) table → HasRow r set r.count table → HasTails r set table
+set_done r set table tails row more k above below there has = by_set (cases_eq more set)
+  where
+    by_set : (more ≡ set) ⊎ (more ≢ set) → Tells r more k (get_or table (more * r.count + k) no_tail)
+    by_set (inl is) = subst (λ s. Tells r s k (get_or table (s * r.count + k) no_tail)) (sym is) (row k there (ap (λ s. has_place s k) (sym is) ∙ has))
+    by_set (inr apart) = tails more k (omega (arith, above, apart)) below there has
+
 pub fewer : (r : Rows) (from more : ℕ) (table : List Tail) → from ≤ more → HasTails r from table → HasTails r more table
 fewer r from more table h tails set k above below there has = tails set k (omega (arith, h, above)) below there has
+
+pub nothing_yet : (r : Rows) (table : List Tail) → HasTails r (2 ^ r.count) table
+nothing_yet r table set k above below there has = absurd (omega (arith, above, below))
 
 -- a table for more lines has room
 pub room_for : (count width : ℕ) → count ≤ width → 2 ^ count * count ≤ 2 ^ width * width

@@ -6,9 +6,9 @@ use Rattle.std.proofs.lemmas.Bool.{cases_eq}
 use Rattle.std.proofs.lemmas.Int.{ints}
 use Rattle.least_orders.specs.declared.choice.Choice.{Choice}
 use Rattle.least_orders.specs.Rows.{Rows, AreRows}
-use Rattle.least_orders.specs.Subsets.{first_cost, choice_of, better_choice, choice_from}
+use Rattle.least_orders.specs.Subsets.{first_cost, choice_of, better_choice, choice_from, choice}
 use Rattle.subset_program.specs.Tables.{read, no_head, head_at, best_head, HasHeads}
-use Rattle.subset_program.proofs.Tails.{choice_at_end, choice_more, first_small}
+use Rattle.subset_program.proofs.Tails.{choice_at_end, choice_more, choice_of_all, first_small}
 
 -- Heads.
 
@@ -69,6 +69,9 @@ heads_more r fits s k many heads v below each h e = with_head (record { place = 
           ∙ (ap (λ o. better_choice (choice_of r last k o) (choice_from r s last (k + 1) (r.count - (k + 1)))) e
           ∙ choice_more r s last r.count (k + 1) k refl (omega (arith, below)))));
     }
+
+pub best_of_all : (r : Rows) (s many : ℕ) (heads : List Choice) (last : Option ℕ) → HasHeads r s 0 many heads → best_head r last heads many ≡ choice r s last
+best_of_all r s many heads last h = h.best last ∙ choice_of_all r s last 0 refl
 
 -- what the best of so many heads costs at least, one by one
 pub best_more : (r : Rows) (last : Option ℕ) (heads : List Choice) (i : ℕ)

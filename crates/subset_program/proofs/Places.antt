@@ -1,5 +1,5 @@
 -- Where entries of the table stand, and when no line is left.
-use Rattle.std.proofs.Common.{◌≡◌, ◌≢◌, ℕ, zero, suc, ◌+◌, ◌-◌, ◌*◌, ◌^◌, ◌<◌, ◌≤◌, Bool, true, false, cond, ◌∷◌, length, refl, sym, ◌∙◌, ap, arith, ◌⊎◌, inl, inr, true≢false}
+use Rattle.std.proofs.Common.{◌≡◌, ◌≢◌, ℕ, zero, suc, ◌+◌, ◌-◌, ◌*◌, ◌^◌, ◌<◌, ◌≤◌, Bool, true, false, cond, [], ◌∷◌, length, refl, sym, ◌∙◌, ap, arith, ◌⊎◌, inl, inr, true≢false}
 use Rattle.std.specs.Prelude.{bit_and}
 use Rattle.std.specs.Int.Bits.{or_add_and}
 use Rattle.std.proofs.Math.Nat.{mul-le-mul_right, suc-mul}
@@ -16,6 +16,12 @@ use Rattle.subset_program.specs.Tables.{IsFirstFree}
 
 row_after : (m n : ℕ) → (m + 1) * n ≡ m * n + n
 row_after m n = ap (λ k. k * n) (omega arith) ∙ suc-mul m n
+
+pub index_within : (m p k n len : ℕ) → m < p → k < n → p * n ≤ len → m * n + k < len
+index_within m p k n len below within room =
+    let rows = mul-le-mul_right {m = m + 1} {n = p} n (omega (arith, below)) in
+    let next = row_after m n in
+    omega (arith, within, room, rows, next)
 
 -- an entry of a greater set stands elsewhere
 pub apart_rows : (set more n i j : ℕ) → set < more → i < n → j < n → (more * n + j) ≢ (set * n + i)

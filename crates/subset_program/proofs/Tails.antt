@@ -1,6 +1,6 @@
 -- What loops over the lines from the last place down to the first have gone over.
 use Rattle.std.proofs.Common.{◌≡◌, ℕ, suc, ◌+◌, ◌-◌, ◌<◌, ◌≤◌, Bool, true, false, cond, refl, sym, ◌∙◌, ap, arith, Option, Some, None}
-use Rattle.std.specs.Prelude.{ℤ, ◌+ℤ◌, unsigned_abs}
+use Rattle.std.specs.Prelude.{ℤ, ◌+ℤ◌, unsigned_abs, IfSome}
 use Rattle.std.specs.Option.{option_map}
 use Rattle.std.proofs.lemmas.Int.{ints}
 use Rattle.least_orders.specs.Rows.{Rows, AreRows}
@@ -62,3 +62,10 @@ first_small r fits set k v e = by_place (has_place set k) (is_ready r set k) e
     by_place true t h = absurd (none_some v h)
     by_place false false h = absurd (none_some v h)
     by_place false true h = by_rest (rest_cost r (with_place set k) (Some k)) refl h
+
+pub first_small_if : (r : Rows) → AreRows r → (set k : ℕ) → IfSome (first_cost r set k) (λ v. unsigned_abs v ≤ 600000000000000000)
+first_small_if r fits set k = by_cost (first_cost r set k) refl
+  where
+    by_cost : (o : Option ℤ) → first_cost r set k ≡ o → IfSome o (λ v. unsigned_abs v ≤ 600000000000000000)
+    by_cost None e = tt
+    by_cost (Some v) e = first_small r fits set k v e

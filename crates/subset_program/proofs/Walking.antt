@@ -1,5 +1,5 @@
 -- Going forward over the table, each time to the best line.
-use Rattle.std.proofs.Common.{◌≡◌, ℕ, zero, suc, ◌+◌, ◌<◌, ◌≤◌, ◌==◌, Bool, true, false, cond, List, ◌∷◌, ◌++◌, length, map, take, set, refl, sym, ◌∙◌, ap, subst, arith, append_assoc, Option, Some, None}
+use Rattle.std.proofs.Common.{◌≡◌, ℕ, zero, suc, ◌+◌, ◌<◌, ◌≤◌, ◌==◌, Bool, true, false, cond, List, [], ◌∷◌, ◌++◌, length, map, take, set, refl, sym, ◌∙◌, ap, subst, arith, append_assoc, Option, Some, None}
 use Rattle.std.specs.Prelude.{ℤ, pos, ◌+ℤ◌, int_lt}
 use Rattle.std.specs.Option.{option_map}
 use Rattle.std.proofs.lemmas.List.{map-append, append-nil, take_more_set, take_all}
@@ -81,6 +81,10 @@ all_left k (suc n) =
 nothing_first : (o : Option (List LineId)) → o ≡ option_map (λ (rest : List LineId). [] ++ rest) o
 nothing_first None = refl
 nothing_first (Some o) = refl
+
+-- at first
+pub nothing_at_all : (r : Rows) → r.count ≡ 0 → Some (pos 0) ≡ rest_cost r 0 None
+nothing_at_all r e = sym (ends r 0 None (ap (λ n. left_from 0 0 n) e)).1
 
 pub whole_by_choice : (r : Rows) → AreRows r → 0 < r.count → option_map (λ (c : Choice). c.cost) (choice r 0 None) ≡ rest_cost r 0 None
 whole_by_choice r fits some = sym (goes_on r fits 0 None (let each = all_left 0 r.count in omega (arith, each, some))).1
