@@ -1,5 +1,5 @@
 -- A file that is read for a command.
-use Rattle.std.proofs.Common.{◌≡◌, ◌≤◌, ℕ, Bool, true, false, List, ◌∷◌, length, Option, None, Some, option_map, Result, Ok, Err, IfOk, IfSome, Vec, if◌then◌else◌, nat_le, refl, sym, ap, ◌∙◌, subst}
+use Rattle.std.proofs.Common.{◌≡◌, ◌≤◌, ℕ, Bool, true, false, List, [], ◌∷◌, length, Option, None, Some, option_map, Result, Ok, Err, IfOk, IfSome, Vec, if◌then◌else◌, nat_le, refl, sym, ap, ◌∙◌, subst}
 use Rattle.std.specs.declared.alloc.Global.{Global}
 use Rattle.std.proofs.lemmas.Bool.{le-leb}
 use Rattle.map_base.specs.declared.limit.Limit.{Limit}

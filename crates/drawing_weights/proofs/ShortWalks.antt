@@ -1,5 +1,5 @@
 -- Walks that come to no point again have no more steps than a board has points.
-use Rattle.std.proofs.Common.{◌≡◌, ◌∙◌, ℕ, suc, ◌≤◌, ◌<◌, true, false, eqb, pos, negsuc, List, ◌∷◌, length, map, sym, ap, refl, arith, ◌⊎◌, inl, inr}
+use Rattle.std.proofs.Common.{◌≡◌, ◌∙◌, ℕ, suc, ◌≤◌, ◌<◌, true, false, eqb, pos, negsuc, List, [], ◌∷◌, length, map, sym, ap, refl, arith, ◌⊎◌, inl, inr}
 use Rattle.std.proofs.lemmas.Bool.{and_from, and_parts, eqb-true, leb-true, ne_eqb, or_cases, false≢true}
 use Rattle.std.specs.Prelude.{nat_le, unsigned_abs}
 use Rattle.std.proofs.lemmas.Int.{ints}

@@ -1,6 +1,6 @@
 //! What the turns of a walk cost together, and how far two points lie apart.
 
-ghost use Rattle.std.specs.Prelude.{◌≡◌, ◌<◌, ◌≤◌, drop, length, unsigned_abs};
+ghost use Rattle.std.specs.Prelude.{◌≡◌, ◌<◌, ◌≤◌, drop, length, unsigned_abs, true};
 ghost use Rattle.octi_grid.specs.Costs.{turn_to};
 ghost use Rattle.octi_grid.specs.Runs.{are_runs, steps_of};
 ghost use Rattle.drawing_weights.specs.Weights.{square, square_apart, turn_after, turns_of};

@@ -1,5 +1,5 @@
 -- What comes of a check after each of its steps.
-use Rattle.std.proofs.Common.{◌≡◌, ◌∙◌, ap, sym, subst, refl, ℕ, ◌+◌, ◌==◌, eq-eqb, eqb-true, Bool, true, cond, List, ◌∷◌, length, Option, Some, None, option_map, Result, Ok, Err}
+use Rattle.std.proofs.Common.{◌≡◌, ◌∙◌, ap, sym, subst, refl, ℕ, ◌+◌, ◌==◌, eq-eqb, eqb-true, Bool, true, cond, List, [], ◌∷◌, length, Option, Some, None, option_map, Result, Ok, Err}
 use Rattle.map_base.specs.declared.ids.LineId.{LineId}
 use Rattle.map_base.specs.Settings.{Choices}
 use Rattle.graph_core.specs.declared.parts.GraphParts.{GraphParts}
