@@ -8,7 +8,7 @@ use std::rt::Files;
 /// The names of a poster.
 #[derive(Drop)]
 pub struct PosterNames {
-    /// The names of stations that are printed nowhere, in the order of their stations.
+    /// The names of stations that are printed nowhere, each once, in the order of their stations.
     pub left_out: Vec<Text>,
     /// How many names are printed.
     pub printed: usize,
@@ -112,11 +112,19 @@ fn left_out(alloc: Global, poster: &str, printed: &[String]) -> Result<Vec<Text>
     for element in poster.lines() {
         if let Some(title) = station_title(element) {
             if !is_printed(alloc, title, printed)? {
-                left_out.push(unescaped(alloc, title)?)?;
+                push_once(&mut left_out, unescaped(alloc, title)?)?;
             }
         }
     }
     Ok(left_out)
+}
+
+/// Puts a name behind others, unless it is one of them.
+fn push_once(names: &mut Vec<Text>, name: Text) -> Result<(), NoMemory> {
+    if !names.iter().any(|other| other.as_str() == name.as_str()) {
+        names.push(name)?;
+    }
+    Ok(())
 }
 
 /// The title of the group of a station, as it is written; none where it is empty, or the element is another one.
