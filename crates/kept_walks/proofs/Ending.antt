@@ -44,17 +44,17 @@ module _ (try : List PlainWalk → Attempt → Option (List PlainWalk)) where
   -- where a pass that had room made nothing, no attempt gives walks
   none_made : (limit : ℕ) (attempts : List Attempt) (f : Found) → f.made < limit → (after_pass try attempts limit f).made ≡ f.made → NoneGives attempts f
   none_made limit [] f room same a i = absurd i
-  none_made limit (b ∷ attempts) f room same a i = by_first (try f.walks b) refl i
+  none_made limit (b ∷ attempts) f room same a i = by_first (try f.walks b) refl i (λ later j. none_made limit attempts f room later a j)
     where
       next : (o : Option (List PlainWalk)) → try f.walks b ≡ o → after_attempt try limit f b ≡ found_with f o
       next o e = tried limit f b room ∙ ap (found_with f) e
 
-      by_first : (o : Option (List PlainWalk)) → try f.walks b ≡ o → In a (b ∷ attempts) → try f.walks a ≡ None
-      by_first (Some walks) e j =
+      by_first : (o : Option (List PlainWalk)) → try f.walks b ≡ o → In a (b ∷ attempts) → ((after_pass try attempts limit f).made ≡ f.made → In a attempts → try f.walks a ≡ None) → try f.walks a ≡ None
+      by_first (Some walks) e j rest =
           let one = ap (λ (g : Found). g.made) (next (Some walks) e) in
           absurd (omega (arith, one, made_rises limit attempts (after_attempt try limit f b), same))
-      by_first None e (inl k) = ap (try f.walks) k ∙ e
-      by_first None e (inr k) = none_made limit attempts f room (sym (ap (λ (g : Found). (after_pass try attempts limit g).made) (next None e)) ∙ same) a k
+      by_first None e (inl k) rest = ap (try f.walks) k ∙ e
+      by_first None e (inr k) rest = rest (sym (ap (λ (g : Found). (after_pass try attempts limit g).made) (next None e)) ∙ same) k
 
   -- ---- passes
 
@@ -71,15 +71,16 @@ module _ (try : List PlainWalk → Attempt → Option (List PlainWalk)) where
     -- enough passes are left for all attempts that may be made
     pub ended : (p : ℕ) (f : Found) → f.made ≤ most → most ≤ f.made + p → IsEnd (after_passes try attempts at_once most p f)
     ended zero f few enough = inl (omega (arith, few, enough))
-    ended (suc p) f few enough = by_same (eqb (passed f).made f.made) refl
+    ended (suc p) f few enough = by_same (eqb (passed f).made f.made) refl (λ some_few some_enough. ended p (passed f) some_few some_enough)
       where
-        by_same : (b : Bool) → eqb (passed f).made f.made ≡ b → IsEnd (cond b f (after_passes try attempts at_once most p (passed f)))
-        by_same true e = elim (cases_lt f.made most) [
+        by_same : (b : Bool) → eqb (passed f).made f.made ≡ b → ((passed f).made ≤ most → most ≤ (passed f).made + p → IsEnd (after_passes try attempts at_once most p (passed f)))
+            → IsEnd (cond b f (after_passes try attempts at_once most p (passed f)))
+        by_same true e rest = elim (cases_lt f.made most) [
           | inl room ↦ inr (none_made (limit f) attempts f (omega (arith, room, some (omega (arith, room)))) (eqb-true (passed f).made f.made e))
           | inr full ↦ inl (omega (arith, few, full))
         ]
-        by_same false e =
+        by_same false e rest =
             let up = made_rises (limit f) attempts f in
             let within = made_within (limit f) attempts f (omega (arith, few)) in
             let other = eqb-false (passed f).made f.made e in
-            ended p (passed f) (omega (arith, within)) (omega (arith, up, other, enough))
+            rest (omega (arith, within)) (omega (arith, up, other, enough))

@@ -54,7 +54,7 @@ held_alike : (graph : GraphParts) (scale : Scale) (held : ℕ → Bool) → ((n 
 held_alike graph scale held same first walks =
     ap (λ k. sum_by (walk_weight_by scale) walks + k)
     (sums_alike (node_weight_by (record scale { is_held = held }) graph first walks) (node_weight_by scale graph first walks) 0 (length graph.kinds)
-    (λ n h. ap (λ b. scale.overs * turns_over graph walks n + cond b (scale.aparts * square_apart (point_of graph first n) (point_of graph walks n)) 0) (same n h)))
+    (λ n h. ap (λ b. scale.overs * turns_over graph walks n + cond b (scale.aparts * square_apart (point_of graph first n) (point_of graph walks n)) 0) (same n (omega (arith, h)))))
 
 -- ---- what a search comes to
 

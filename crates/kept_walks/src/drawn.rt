@@ -1,6 +1,6 @@
 //! The drawing that was made last.
 
-ghost use Rattle.std.specs.Prelude.{◌≡◌, length, true, IfOk, IfErr, IfSome, Ok};
+ghost use Rattle.std.specs.Prelude.{◌≡◌, length, true, IsTrue, IfOk, IfErr, IfSome, Ok};
 ghost use Rattle.map_method.specs.Methods.{IsSpread};
 ghost use Rattle.octi_grid.specs.Legal.{legal};
 ghost use Rattle.grid_board.specs.Points.{are_near};
@@ -50,7 +50,7 @@ impl DrawnGraph {
     ) -> Result<Option<Drawing>, NoMemory>
         ensures { IfOk result (λ found. IfSome found (λ d. AreDrawn graph.now plan d.walks)) }
     {
-        if self.plan != plan {
+        if !are_same_plans(self.plan, plan) {
             return Ok(None);
         }
         if !are_same_graphs(&self.graph, graph) {
@@ -58,6 +58,13 @@ impl DrawnGraph {
         }
         Ok(Some(copy_of_drawing(alloc, &self.drawing)?))
     }
+}
+
+/// Whether two plans are one.
+fn are_same_plans(some: DrawingPlan, other: DrawingPlan) -> bool
+    ensures { IsTrue result → some ≡ other }
+{
+    some == other
 }
 
 /// The drawing that was made last, if it is kept. What is drawn is the same whatever is kept.
