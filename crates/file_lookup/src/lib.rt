@@ -15,7 +15,7 @@ mod feed_tables;
 mod map_text;
 mod network;
 mod paths;
-mod poster_names;
+mod printed_names;
 mod refused_settings;
 mod rows;
 mod session_draws;
@@ -34,7 +34,7 @@ pub use paths::{
     Folder, begins_with, bytes_at, folder_at, found_file, inner_with, is_archive, is_folder,
     is_plain, read_fault,
 };
-pub use poster_names::{PosterNames, poster_names};
+pub use printed_names::{PosterNames, poster_names};
 pub use refused_settings::{Refused, Source, refused_text};
 pub use rows::{FoundRow, Sought, earlier_row, row_around, row_at};
 pub use session_draws::{Draws, RefusedDraw, draws_at};
