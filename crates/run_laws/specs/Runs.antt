@@ -1,5 +1,5 @@
 -- What a run over told files is.
-use Rattle.std.specs.Prelude.{◌≡◌, ◌⊎◌, ℕ, List}
+use Rattle.std.specs.Prelude.{◌≡◌, ◌⊎◌, ℕ, List, Some}
 use Rattle.files_door.specs.declared.target.Target.{Target}
 use Rattle.files_door.specs.Targets.{Written, held_by}
 use Rattle.command_run.specs.declared.delivery.Ending.{Ending}
