@@ -1,10 +1,12 @@
 -- From how a run ends to how the program ends.
 use Rattle.std.proofs.Common.{◌≡◌, ◌⊎◌, inl, inr, ℕ, List, Option, None, Some, Result, Ok, Err, sym, subst}
-use Rattle.std.specs.Prelude.{⊤}
+use Rattle.std.specs.Prelude.{⊤, String}
+use Rattle.std.specs.declared.alloc.Global.{Global}
 use Rattle.files_door.specs.Targets.{Written}
 use Rattle.command_run.specs.declared.delivery.Ending.{Ending}
 use Rattle.command_run.specs.declared.delivery.Ending.TheVariants.{Whole, CutShort, OutOfMemory}
 use Rattle.command_words.specs.Asked.{Asked}
+use Rattle.command_words.specs.Words.{asked_in}
 use Rattle.run_status.specs.declared.refusal.Refusal.{Refusal}
 use Rattle.run_status.specs.declared.refusal.Refusal.TheVariants as refused
 use Rattle.run_status.specs.declared.status.Status.{Status}
@@ -13,6 +15,7 @@ use Rattle.run_status.specs.Following.{HasCause}
 use Rattle.map_run.specs.declared.answer.Answer.{Answer}
 use Rattle.map_run.specs.Answers.{Finished}
 use Rattle.map_run.specs.Ending.{Ends, IsDue, status_after}
+use Rattle.map_run.specs.Promise.{IsPromised}
 use Rattle.map_run.proofs.EndingLemmas.{Told, due_of}
 use Rattle.map_cli.specs.Ends.{IsEndFor}
 
@@ -43,8 +46,9 @@ run_end asked told files_rose sinks_rose old new ended (inr (inl left)) = elim l
 run_end asked told files_rose sinks_rose old new ended (inr (inr out)) = inr (inr out.1)
 
 -- what is put in its place, or can't be, keeps that
-pub ends_for : (asked : Option Asked) (told : Told) (files_rose sinks_rose : Type 0) (old new : Option Written) (ran ended : Status)
-    → Ends asked told files_rose sinks_rose old new ran → (ended ≡ ran) ⊎ ((ended ≡ status.WriteFault) ⊎ (ended ≡ status.NoMemory)) → IsEndFor asked ended
-ends_for asked told files_rose sinks_rose old new ran ended ends (inl same) =
-    subst (IsEndFor asked) (sym same) (run_end asked told files_rose sinks_rose old new ran ends)
-ends_for asked told files_rose sinks_rose old new ran ended ends (inr failed) = inr failed
+pub promised_end : (words : List (String Global)) (told : Told) (files_rose sinks_rose : Type 0) (old new : Option Written) (before now : ℕ) (ran ended : Status)
+    → IsPromised words told files_rose sinks_rose old new before now ran → (ended ≡ ran) ⊎ ((ended ≡ status.WriteFault) ⊎ (ended ≡ status.NoMemory))
+    → IsEndFor (asked_in words) ended
+promised_end words told files_rose sinks_rose old new before now ran ended promised (inl same) =
+    subst (IsEndFor (asked_in words)) (sym same) (run_end (asked_in words) told files_rose sinks_rose old new ran promised.ends)
+promised_end words told files_rose sinks_rose old new before now ran ended promised (inr failed) = inr failed
